@@ -1,0 +1,67 @@
+-- Beginning refuses what table checking refuses, with its number and place, and a refused beginning hands back the stopped state. Assumes nothing.
+use mathlib.Core.Path.{_≡_, refl, sym, _∙_, ap}
+use mathlib.Core.List.{List}
+use Prim.Native.Nat.{ℕ}
+use Rattle.rules.specs.declared.Entry.{Entry}
+use Rattle.rules.specs.declared.Refusal.{Refusal}
+use Rattle.rules.specs.declared.Start.{Start as StartOf}
+use Rattle.rules.specs.declared.CheckAnswer.{CheckAnswer}
+use Rattle.rules.specs.declared.CheckAnswer.the-variants as check-case
+use Rattle.rules.specs.declared.StartAnswer.the-variants.{Start, Refused}
+use Rattle.rules.specs.declared.Dispatcher.{Dispatcher as State}
+use Rattle.rules.specs.declared.Turn.{Turn}
+use Rattle.rules.specs.Refusals.{Judged, gives, then}
+use Rattle.rules.specs.Priority.{setting}
+use Rattle.rules.specs.Judging.{judge-tables}
+use Rattle.rules.specs.Operations.{Tabled, Timed, read-tables, rebuild-from, check-answer, check-tables}
+use Rattle.rules.specs.Offsets.{NextStart, next-is, stuck, next-start, lent}
+use Rattle.rules.specs.Dispatcher.{set-of, stopped, refused, zeros, started, fresh, begin-accepted, begin-framed, begin}
+use Rattle.rules.proofs.Cases.{by-judged, clash}
+
+-- a next start that is not found leaves the stopped state
+stuck-stopped : (bytes : List ℕ) (s : State) (c : ℕ) (x offsets : List ℕ) (n : NextStart) (r : Refusal) →
+    started bytes s c x offsets n .answer ≡ Refused r → started bytes s c x offsets n .state ≡ stopped
+stuck-stopped bytes s c x offsets (next-is i t o) r e = clash (cc)
+stuck-stopped bytes s c x offsets (stuck number) r e = refl
+
+module _ (bytes : List ℕ) where
+  -- the first start of an image that is accepted, and the turn that makes it
+  abbrev first-start : Tabled → NextStart
+  first-start i = next-start (setting (set-of (fresh i))) (lent bytes (set-of (fresh i))) zeros 0 (fresh i .now .inversions) (fresh i .now .idle)
+
+  abbrev first-turn : Tabled → Turn
+  first-turn i = started bytes (fresh i) 0 zeros (fresh i .now .inversions) (first-start i)
+
+  -- how beginning comes about: table checking refuses the image, or accepts it and the first start is looked for
+  by-beginning : {A : Type 0} → ((r : Refusal) → check-tables bytes ≡ check-case.Refused r → begin bytes ≡ refused r stopped → A) →
+      ((i : Tabled) → check-tables bytes ≡ check-case.Accepted → begin bytes ≡ first-turn i → A) → A
+  unfolding check-tables begin
+  by-beginning refusing accepting =
+      by-judged (read-tables bytes)
+      (λ i e. let c : check-tables bytes ≡ check-answer (rebuild-from i) = ap (λ (z : Judged Tabled). check-answer (then z rebuild-from)) e in
+      let b : begin bytes ≡ begin-accepted bytes i (judge-tables (i .tasks) (i .tables)) = ap (begin-framed bytes) e in
+      by-judged (judge-tables (i .tasks) (i .tables)) (λ τ j. accepting i (c ∙ ap (rebuilt-answer i) j) (b ∙ ap (begin-accepted bytes i) j))
+      (λ r j. refusing r (c ∙ ap (rebuilt-answer i) j) (b ∙ ap (begin-accepted bytes i) j)))
+      (λ r e. refusing r (ap (λ (z : Judged Tabled). check-answer (then z rebuild-from)) e) (ap (begin-framed bytes) e))
+    where
+      timed : Tabled → List Entry → Judged Timed
+      timed i τ = gives (record { tasks = i .tasks; entries = τ })
+
+      rebuilt-answer : Tabled → Judged (List Entry) → CheckAnswer
+      rebuilt-answer i z = check-answer (then z (timed i))
+
+  -- an image that table checking refuses is refused by beginning with the same number and place, and the state is stopped
+  pub begin-refuses : (r : Refusal) → check-tables bytes ≡ check-case.Refused r → begin bytes ≡ refused r stopped
+  begin-refuses r c =
+      by-beginning (λ q d b. let e : q ≡ r = cc in b ∙ ap (λ (z : Refusal). refused z stopped) e) (λ i d b. clash (cc))
+
+  -- a start is begun only from an image that table checking accepts
+  pub begin-accepts : (s : StartOf) → begin bytes .answer ≡ Start s → check-tables bytes ≡ check-case.Accepted
+  begin-accepts s e = by-beginning (λ r c b. let g : Refused r ≡ Start s = sym (ap (λ (t : Turn). t .answer) b) ∙ e in clash (cc)) (λ i c b. c)
+
+  -- a refused beginning hands back the stopped state
+  pub refused-stopped : (r : Refusal) → begin bytes .answer ≡ Refused r → begin bytes .state ≡ stopped
+  refused-stopped r e =
+      by-beginning (λ q c b. ap (λ (t : Turn). t .state) b)
+      (λ i c b. ap (λ (t : Turn). t .state) b
+      ∙ stuck-stopped bytes (fresh i) 0 zeros (fresh i .now .inversions) (first-start i) r (sym (ap (λ (t : Turn). t .answer) b) ∙ e))

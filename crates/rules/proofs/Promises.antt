@@ -1,0 +1,297 @@
+-- The promises: what is proved of the rule book, each under the line that says what it promises. Where a proof takes more than a line it stands elsewhere.
+-- Assumes nothing.
+use mathlib.Core.Path.{_≡_, refl, sym, _∙_, ap}
+use mathlib.Core.Logic.{_↔_, _⊎_}
+use mathlib.Core.Bool.{true}
+use mathlib.Core.List.{List, [], _∷_, _++_, map}
+use mathlib.Core.Option.{Option, none, some}
+use Prim.Native.Nat.{ℕ, suc, _+_, _*_, _/_, _%_, _≤_, _<_}
+use native.Mathlib.Omega.{arith}
+use lib.ListN.{length, take, drop}
+use Rattle.fields.specs.Number.{Bytes}
+use Rattle.rules.specs.declared.Task.{Task}
+use Rattle.rules.specs.declared.TaskSet.{TaskSet}
+use Rattle.rules.specs.declared.Entry.{Entry}
+use Rattle.rules.specs.declared.Refusal.{Refusal}
+use Rattle.rules.specs.declared.Figures.{Figures}
+use Rattle.rules.specs.declared.Layout.{Layout}
+use Rattle.rules.specs.declared.Start.{Start as StartOf}
+use Rattle.rules.specs.declared.Dispatcher.{Dispatcher as State}
+use Rattle.rules.specs.declared.SetAnswer.the-variants as set-case
+use Rattle.rules.specs.declared.CheckAnswer.the-variants as check-case
+use Rattle.rules.specs.declared.MakeAnswer.the-variants as make-case
+use Rattle.rules.specs.declared.StartAnswer.{StartAnswer}
+use Rattle.rules.specs.declared.StartAnswer.the-variants as start-case
+use Rattle.rules.specs.Refusals.{Judged, gives, refuses, or-else, refusal, First, tells, set-tells, check-tells, make-tells, start-tells}
+use Rattle.rules.specs.Tasks.{GoodSet, task, release, due, all-jobs, hyperperiod, figures, set-fault, memory-fault, memory-tests, set-answer, judge-set}
+use Rattle.rules.specs.Timetable.{ValidTimetable, entry-at, job-at}
+use Rattle.rules.specs.Setting.{Tables}
+use Rattle.rules.specs.Priority.{setting}
+use Rattle.rules.specs.Decision.{replay-from, replay}
+use Rattle.rules.specs.Judging.{timetable-fault, tables, records-fault}
+use Rattle.rules.specs.Image.{timetable-image, table-image, WritableTimetable, WritableTables}
+use Rattle.rules.specs.declared.Place.{Place}
+use Rattle.rules.specs.Framing.{frame-from, frame-records}
+use Rattle.rules.specs.Operations.{Timed, Tabled, read-timetable, read-tables, check-timetable, check-tables, derive, derive-output, rebuild, rebuild-output, derived-image, rebuilt-image, into}
+use Rattle.rules.specs.Offsets.{lent, next-start-in, next-start}
+use Rattle.rules.specs.Dispatcher.{Shaped, stopped, is-stopped, refused, begin, go-on}
+use Rattle.rules.specs.Calls.{call, HonestBefore, HonestSince, all-calls, last-call, start-of}
+use Rattle.rules.specs.GoingOn.{going-tests, refusal-in, Leaves}
+use Rattle.rules.specs.Promised.{HasTables, TimetableImage, TableImage, RefusesTimetableImage, RefusesTableImage}
+use Rattle.rules.specs.Worked.{worked, worked-out, P2-bytes}
+use Rattle.rules.proofs.Cases.{by-option, clash}
+use Rattle.rules.proofs.GoodSets.{good-set, set-good, memory-order}
+use Rattle.rules.proofs.ValidTimetables.{no-fault-valid, valid-timetable}
+use Rattle.rules.proofs.JudgedTables as lists
+use Rattle.rules.proofs.Turns.{set-replay-enough}
+use Rattle.rules.proofs.FramingTurns.{frame-enough}
+use Rattle.rules.proofs.Images as images
+use Rattle.rules.proofs.HasTables.{derived-tables, one-table}
+use Rattle.rules.proofs.Demand2 as demand2
+use Rattle.rules.proofs.ImageOrder as order
+use Rattle.rules.proofs.RefusalNumbers as numbers
+use Rattle.rules.proofs.NextTurns.{enough-turns, lent-in-range}
+use Rattle.rules.proofs.PriorityLaws.{priority-runs}
+use Rattle.rules.proofs.PossibleStates.{only-stopped, stopped-says}
+use Rattle.rules.proofs.GoingOnOrder as going
+use Rattle.rules.proofs.BeginOrder as beginning
+use Rattle.rules.proofs.Demand3 as demand3
+use Rattle.rules.proofs.WorkedCases as cases
+
+-- IMAGES AND VALUES correspond one to one: exactly what can be written is read, with the values that were written
+
+pub timetable-images : (bytes : List ℕ) → Bytes bytes → (i : Timed) →
+    (read-timetable bytes ≡ gives i) ↔ (WritableTimetable (i .tasks) (i .entries) × (bytes ≡ timetable-image (i .tasks) (i .entries)))
+timetable-images bytes b i = (
+  images.framed-timetable bytes b i,
+  λ w. ap read-timetable (w .1) ∙ images.written-timetable (i .tasks) (i .entries) (w .0),
+)
+
+pub table-images : (bytes : List ℕ) → Bytes bytes → (i : Tabled) →
+    (read-tables bytes ≡ gives i) ↔ (WritableTables (i .tasks) (i .tables) × (bytes ≡ table-image (i .tasks) (i .tables)))
+table-images bytes b i = (
+  images.framed-tables bytes b i,
+  λ w. ap read-tables (w .1) ∙ images.written-tables (i .tasks) (i .tables) (w .0),
+)
+
+-- DEMAND 2: a set passes exactly when it is good, by the document's list of rules
+
+pub good-sets : (ts : List Task) (h : ℕ) → ((set-fault ts ≡ none) × (h ≡ hyperperiod ts)) ↔ GoodSet ts h
+good-sets ts h = (λ w. rw (w .1) (good-set ts (w .0)), set-good ts h)
+
+-- DEMAND 2: a timetable passes exactly when it is valid, by the document's list of rules
+
+pub valid-timetables : (ts : List Task) (τ : List Entry) → (timetable-fault ts τ ≡ none) ↔ ValidTimetable ts (hyperperiod ts) τ
+valid-timetables = no-fault-valid
+
+-- DEMAND 2: a timetable image is accepted exactly when it is the image of a good set and a valid timetable
+
+pub accepted-timetables : (bytes : List ℕ) → Bytes bytes →
+    (check-timetable bytes ≡ check-case.Accepted) ↔ ((ts : List Task) × (τ : List Entry) × TimetableImage bytes ts τ)
+accepted-timetables = demand2.accepts-timetable
+
+-- DEMAND 2: its tables are exactly its irregularities, as the document defines them over the entries before
+
+pub exactly-its-irregularities : (ts : List Task) (h : ℕ) (τ : List Entry) → GoodSet ts h → ValidTimetable ts h τ → (X : Tables) →
+    HasTables ts h τ X ↔ (X ≡ tables ts τ)
+exactly-its-irregularities ts h τ g v X = (one-table g v, λ e. rw e (derived-tables g v))
+
+-- DEMAND 2: derived records meet their own rules, so that 17 never refuses them
+
+pub derived-records-keep-their-rules : (ts : List Task) (h : ℕ) (τ : List Entry) → GoodSet ts h → ValidTimetable ts h τ →
+    records-fault ts (hyperperiod ts) (tables ts τ) ≡ none
+derived-records-keep-their-rules ts h τ g v =
+    let e = set-good ts h g in lists.derived-keep-rules ts τ (e .0) (valid-timetable ts (hyperperiod ts) τ .1 (rw (e .1) at v))
+
+-- DEMAND 2: deriving gives the image of exactly these tables
+
+pub derived-images : {bytes : List ℕ} {ts : List Task} {τ : List Entry} → TimetableImage bytes ts τ → (room : ℕ) →
+    derived-image room bytes ≡ into room (table-image ts (tables ts τ))
+derived-images = demand2.derives-image
+
+-- DEMAND 2: a table image is accepted exactly when some valid timetable has those tables
+
+pub accepted-tables : (bytes : List ℕ) → Bytes bytes →
+    (check-tables bytes ≡ check-case.Accepted) ↔ ((ts : List Task) × (τ : List Entry) × TableImage bytes ts τ)
+accepted-tables = demand2.accepts-tables
+
+-- DEMAND 2: that timetable is the only one
+
+pub only-one-timetable : {bytes : List ℕ} {ts us : List Task} {τ σ : List Entry} → TableImage bytes ts τ → TableImage bytes us σ → (ts ≡ us) × (τ ≡ σ)
+only-one-timetable = demand2.one-timetable-behind
+
+-- DEMAND 2: rebuilding gives its image, byte for byte
+
+pub rebuilt-images : {bytes : List ℕ} {ts : List Task} {τ : List Entry} → TableImage bytes ts τ → (room : ℕ) →
+    rebuilt-image room bytes ≡ into room (timetable-image ts τ)
+rebuilt-images = demand2.rebuilds-image
+
+-- DEMAND 2: rebuild after derive, and derive after rebuild, are the identity on accepted images, in the lent outputs as they stand
+
+pub rebuild-after-derive : (bytes old : List ℕ) (n : ℕ) → Bytes bytes → derive bytes old ≡ make-case.Made n → (out : List ℕ) → length bytes ≤ length out →
+    (rebuild (take n (derive-output bytes old)) out ≡ make-case.Made (length bytes))
+    × (rebuild-output (take n (derive-output bytes old)) out ≡ bytes ++ drop (length bytes) out)
+rebuild-after-derive = demand2.rebuild-after-derive
+
+pub derive-after-rebuild : (bytes old : List ℕ) (n : ℕ) → Bytes bytes → rebuild bytes old ≡ make-case.Made n → (out : List ℕ) → length bytes ≤ length out →
+    (derive (take n (rebuild-output bytes old)) out ≡ make-case.Made (length bytes))
+    × (derive-output (take n (rebuild-output bytes old)) out ≡ bytes ++ drop (length bytes) out)
+derive-after-rebuild = demand2.derive-after-rebuild
+
+-- DEMAND 3, of a table image that is accepted, with the set and the one timetable that `accepted-tables` gives
+
+module _ (bytes : List ℕ) (are-bytes : Bytes bytes) (ts : List Task) (τ : List Entry) (accepted : TableImage bytes ts τ) where
+  -- the timetable has as many entries as a cycle has jobs, and at least one
+  pub entries-are-jobs : (length τ ≡ all-jobs (hyperperiod ts) ts) × (1 ≤ length τ)
+  entries-are-jobs =
+      (demand3.as-many-entries bytes are-bytes ts τ (demand2.rebuilds accepted), demand3.at-least-one bytes are-bytes ts τ (demand2.rebuilds accepted))
+
+  -- call k answers the next entry, moved by whole hyperperiods: k mod length of cycle k / length
+  pub serves : (ends : ℕ → ℕ) (k : ℕ) → HonestBefore ts bytes ends k → k < all-calls τ →
+      start-tells (call bytes ends k .answer)
+      ≡ tells
+      (entry-at τ (k % length τ) .task
+      ∷ job-at τ (k % length τ)
+      ∷ (k / length τ)
+      ∷ (k / length τ * hyperperiod ts + entry-at τ (k % length τ) .start)
+      ∷ [])
+  serves ends k honest lt = ap start-tells (demand3.serves bytes are-bytes ts τ (demand2.rebuilds accepted) ends k honest lt)
+
+  -- the starts don't depend on the reported ends
+  pub starts-do-not-depend-on-ends : (ends ends′ : ℕ → ℕ) (k : ℕ) → HonestBefore ts bytes ends k → HonestBefore ts bytes ends′ k → k < all-calls τ →
+      call bytes ends k .answer ≡ call bytes ends′ k .answer
+  starts-do-not-depend-on-ends = demand3.starts-do-not-depend bytes are-bytes ts τ (demand2.rebuilds accepted)
+
+  -- each start is released, and inside its deadline
+  pub released : (ends : ℕ → ℕ) (k : ℕ) → HonestBefore ts bytes ends k → k < all-calls τ → (s : StartOf) → call bytes ends k .answer ≡ start-case.Start s →
+      s .cycle * hyperperiod ts + release (task ts (s .task)) (s .job) ≤ s .time
+  released = demand3.starts-released bytes are-bytes ts τ (demand2.rebuilds accepted)
+
+  pub in-time : (ends : ℕ → ℕ) (k : ℕ) → HonestBefore ts bytes ends k → k < all-calls τ → (s : StartOf) → call bytes ends k .answer ≡ start-case.Start s →
+      s .time + task ts (s .task) .time ≤ s .cycle * hyperperiod ts + due (task ts (s .task)) (s .job)
+  in-time = demand3.starts-in-time bytes are-bytes ts τ (demand2.rebuilds accepted)
+
+  -- each start is alone on the processor: not before the previous answer's start + C, also across cycles
+  pub alone : (ends : ℕ → ℕ) (k : ℕ) → HonestBefore ts bytes ends (suc k) → suc k < all-calls τ → (s s′ : StartOf) →
+      call bytes ends k .answer ≡ start-case.Start s → call bytes ends (suc k) .answer ≡ start-case.Start s′ → s .time + task ts (s .task) .time ≤ s′ .time
+  alone = demand3.starts-alone bytes are-bytes ts τ (demand2.rebuilds accepted)
+
+  -- after the last, every call whose end is honest for the last job gives 24 and hands back the same state, however often
+  pub after-the-last : (ends : ℕ → ℕ) → HonestBefore ts bytes ends (last-call τ) → HonestSince ts bytes ends (last-call τ) → (m : ℕ) →
+      call bytes ends (last-call τ + suc m) ≡ refused (refusal 24 0) (call bytes ends (last-call τ) .state)
+  after-the-last = demand3.after-the-last bytes are-bytes ts τ (demand2.rebuilds accepted)
+
+  -- not vacuous: honest ends exist
+  pub honest-ends-exist : (ends : ℕ → ℕ) × ((k : ℕ) → k ≤ all-calls τ → HonestBefore ts bytes ends k) × HonestSince ts bytes ends (last-call τ)
+  honest-ends-exist = demand3.honest-exists bytes are-bytes ts τ (demand2.rebuilds accepted)
+
+-- not vacuous: P2 is accepted
+
+pub p2-is-accepted : check-tables P2-bytes ≡ check-case.Accepted
+unfolding check-tables frame-records
+p2-is-accepted = refl
+
+-- DEMAND 1, SETS: the refusal is the first of 5 to 9 in the document's order whose condition holds, and there is none exactly where the set is good
+
+pub set-order : (s : TaskSet) → First (memory-tests s) (memory-fault s)
+set-order = memory-order
+
+pub set-refusals : (s : TaskSet) (r : Refusal) → judge-set s ≡ set-case.Refused r → (memory-fault s ≡ some r) × (5 ≤ r .number) × (r .number ≤ 9)
+unfolding judge-set
+set-refusals s r e =
+    by-option (memory-fault s)
+    (λ n. let g : set-case.Good (figures (take (s .n) (s .tasks))) ≡ set-case.Refused r = rw n at e in clash (cc))
+    (λ q n. let g : set-case.Refused q ≡ set-case.Refused r = rw n at e in
+    let same : q ≡ r = cc in
+    let is : memory-fault s ≡ some r = n ∙ ap some same in
+    let n = numbers.set-numbers s r is in
+    (is, n .0, n .1))
+
+-- DEMAND 1, IMAGES: the refusal is the first in the document's order, by record and then by number, whose condition holds
+
+pub timetable-order : (bytes : List ℕ) (r : Refusal) → (check-timetable bytes ≡ check-case.Refused r) ↔ RefusesTimetableImage bytes r
+timetable-order bytes r = (order.timetable-refusals bytes r, order.refuses-timetable bytes)
+
+pub table-order : (bytes : List ℕ) (r : Refusal) → (check-tables bytes ≡ check-case.Refused r) ↔ RefusesTableImage bytes r
+table-order bytes r = (order.table-refusals bytes r, order.refuses-tables bytes)
+
+-- DEMAND 1, IMAGES: which numbers there are
+
+pub timetable-numbers : (bytes : List ℕ) (r : Refusal) → check-timetable bytes ≡ check-case.Refused r → (1 ≤ r .number) × (r .number ≤ 16)
+timetable-numbers = numbers.timetable-numbers
+
+pub table-numbers : (bytes : List ℕ) (r : Refusal) → check-tables bytes ≡ check-case.Refused r →
+    ((1 ≤ r .number) × (r .number ≤ 10)) ⊎ ((17 ≤ r .number) × (r .number ≤ 19))
+table-numbers = numbers.table-numbers
+
+-- DEMAND 1, IMAGES: deriving refuses as checking does, or with 20 an image that is accepted; and then every byte of the output is as it was
+
+pub derive-refusals : (bytes old : List ℕ) (r : Refusal) → derive bytes old ≡ make-case.Refused r →
+    ((check-timetable bytes ≡ check-case.Refused r) ⊎ ((r ≡ refusal 20 0) × (check-timetable bytes ≡ check-case.Accepted))) × (derive-output bytes old ≡ old)
+derive-refusals bytes old r e = (order.derive-refuses bytes old r e, order.derive-keeps bytes old r e)
+
+pub derive-too-long : {bytes : List ℕ} {ts : List Task} {τ : List Entry} (old : List ℕ) → TimetableImage bytes ts τ →
+    (derive bytes old ≡ make-case.Refused (refusal 20 0)) ↔ (length old < length (table-image ts (tables ts τ)))
+derive-too-long = order.derive-too-long
+
+-- and rebuilding likewise
+
+pub rebuild-refusals : (bytes old : List ℕ) (r : Refusal) → rebuild bytes old ≡ make-case.Refused r →
+    ((check-tables bytes ≡ check-case.Refused r) ⊎ ((r ≡ refusal 20 0) × (check-tables bytes ≡ check-case.Accepted))) × (rebuild-output bytes old ≡ old)
+rebuild-refusals bytes old r e = (order.rebuild-refuses bytes old r e, order.rebuild-keeps bytes old r e)
+
+pub rebuild-too-long : {bytes : List ℕ} {ts : List Task} {τ : List Entry} (old : List ℕ) → TableImage bytes ts τ →
+    (rebuild bytes old ≡ make-case.Refused (refusal 20 0)) ↔ (length old < length (timetable-image ts τ))
+rebuild-too-long = order.rebuild-too-long
+
+-- DEMAND 1, DISPATCHER: beginning refuses exactly as table checking does, and hands back the stopped state
+
+pub beginning-refuses : (bytes : List ℕ) (r : Refusal) → check-tables bytes ≡ check-case.Refused r → begin bytes ≡ refused r stopped
+beginning-refuses = beginning.begin-refuses
+
+pub beginning-starts : (bytes : List ℕ) → Bytes bytes → check-tables bytes ≡ check-case.Accepted → (s : StartOf) × (begin bytes .answer ≡ start-case.Start s)
+beginning-starts bytes b e =
+    let w = accepted-tables bytes b .0 e in
+    let k = demand2.rebuilds (w .2) in (
+      start-of (hyperperiod (w .0)) (w .1) (0 / length (w .1)) (0 % length (w .1)),
+      demand3.serves bytes b (w .0) (w .1) k (λ m. 0) 0 (λ j l s q. absurd (omega arith)) (omega (arith, demand3.at-least-one bytes b (w .0) (w .1) k)),
+    )
+
+-- DEMAND 1, DISPATCHER: going on refuses with the first of 23, 25, 21, 22, 24, 25 whose condition holds, and with nothing else
+
+pub going-on-order : (bytes : List ℕ) (s : State) (end : ℕ) → First (going-tests bytes s end) (refusal-in (go-on bytes s end .answer))
+going-on-order = going.going-order
+
+-- DEMAND 1, DISPATCHER: the number is one of 21 to 25, the place 0, and the state is the one that the number leaves
+
+pub going-on-leaves : (bytes : List ℕ) (s : State) (end : ℕ) (r : Refusal) → go-on bytes s end .answer ≡ start-case.Refused r →
+    (21 ≤ r .number) × (r .number ≤ 25) × (r .place ≡ 0) × Leaves s (r .number) (go-on bytes s end .state)
+going-on-leaves bytes s end r e =
+    let l = going.going-leaves bytes s end r e in
+    let n = going.going-numbers (l .1) in
+    (n .0, n .1, l .0, l .1)
+
+-- only the stopped state tests as stopped
+
+pub only-the-stopped-state : (s : State) → Shaped s → is-stopped s ≡ true → s ≡ stopped
+only-the-stopped-state s w e = only-stopped s w (stopped-says s e)
+
+-- DEMAND 1: no answer depends on a number of turns
+
+pub framing-turns : (turns kind : ℕ) (s : Place) (bytes : List ℕ) → length bytes < turns → frame-from turns kind s bytes ≡ frame-records kind s bytes
+framing-turns = frame-enough
+
+pub replay-turns : (ts : List Task) (turns : ℕ) (X : Tables) → set-fault ts ≡ none → records-fault ts (hyperperiod ts) X ≡ none → hyperperiod ts < turns →
+    replay-from (setting ts) turns [] 0 (X .idles) (X .inversions) ≡ replay (setting ts) [] X
+replay-turns = set-replay-enough
+
+pub next-start-turns : (bytes : List ℕ) (ts : List Task) (turns : ℕ) (x : List ℕ) (f : ℕ) (offsets : List ℕ) (o : ℕ) → hyperperiod ts < turns →
+    next-start-in (setting ts) (lent bytes ts) turns x f offsets o ≡ next-start (setting ts) (lent bytes ts) x f offsets o
+next-start-turns bytes ts turns x f offsets o l =
+    enough-turns (setting ts) (lent bytes ts) (lent-in-range bytes ts) (λ x t r e. absurd (priority-runs ts (hyperperiod ts) x t r e)) (omega arith) turns
+    (suc (hyperperiod ts)) x f offsets o (omega arith) (omega arith) (omega arith) (omega arith)
+
+-- P1 TO P12, in a single table
+
+pub worked-cases : map worked-out worked ≡ worked
+worked-cases = cases.all-worked

@@ -1,0 +1,110 @@
+-- Next job numbers count only in the slots of the set's tasks, and keep to the jobs of a cycle. Assumes nothing.
+use mathlib.Core.Path.{_≡_, refl, sym, _∙_, ap}
+use mathlib.Core.Bool.{true, false}
+use mathlib.Core.List.{List, [], _∷_}
+use Prim.Native.Nat.{ℕ, zero, suc, _+_, max, _<_}
+use native.Mathlib.Omega.{arith}
+use lib.Dec.{ltb, leb}
+use lib.ListN.{length}
+use borrow.Author.Tests.{ltb-true, le-leb}
+use Rattle.fields.specs.Body.{head₀, tail₀}
+use Rattle.rules.specs.declared.Task.{Task}
+use Rattle.rules.specs.declared.Idle.{Idle}
+use Rattle.rules.specs.declared.Inversion.{Inversion}
+use Rattle.rules.specs.Tasks.{task, jobs}
+use Rattle.rules.specs.Setting.{Setting, instant}
+use Rattle.rules.specs.Priority.{slot, start-job, all-started, least-release, late, waiting, entry-breaks, run-lowest, by-priority, setting-of}
+use Rattle.rules.specs.Decision.{idle-for, start-task, wait-till, first-idle, later-idles, start-before, delays, replay-from}
+use Rattle.rules.specs.Dispatcher.{counts-possible}
+use Rattle.rules.proofs.Cases.{by-bool, by-nat, by-eq, by-choice, both-true, both-in}
+use Rattle.rules.proofs.RoundTrip.{decided-by}
+use Rattle.rules.proofs.PriorityLaws.{slot-start-same, slot-start-other}
+use Rattle.rules.proofs.Starts.{lowest-from-same, decide-same}
+
+-- the same numbers in the first n slots
+abbrev pub Same : ℕ → List ℕ → List ℕ → Type 0
+Same n x y = (i : ℕ) → i < n → slot x i ≡ slot y i
+
+-- whether all jobs have started depends only on the slots of the set's tasks
+all-started-same : (h : ℕ) (ts : List Task) (x y : List ℕ) → Same (length ts) x y → all-started h ts x ≡ all-started h ts y
+all-started-same h [] x y s = refl
+all-started-same h (t ∷ ts) x y s =
+    let a : head₀ x ≡ head₀ y = s 0 (omega arith) in
+    by-bool (ltb (head₀ y) (jobs h t)) (λ b. rw (a, b, all-started))
+    (λ b. rw (a, b, all-started) (all-started-same h ts (tail₀ x) (tail₀ y) (λ i l. s (suc i) (omega arith))))
+
+-- and so do the least release
+least-release-same : (h : ℕ) (ts : List Task) (x y : List ℕ) → Same (length ts) x y → least-release h ts x ≡ least-release h ts y
+least-release-same h [] x y s = refl
+least-release-same h (t ∷ ts) x y s =
+    let a : head₀ x ≡ head₀ y = s 0 (omega arith) in
+    let r = least-release-same h ts (tail₀ x) (tail₀ y) (λ i l. s (suc i) (omega arith)) in
+    by-bool (ltb (head₀ y) (jobs h t)) (λ b. rw (a, b, r, least-release) (rw a)) (λ b. rw (a, b, least-release) r)
+
+-- what has started after a start
+start-same : (n : ℕ) (x y : List ℕ) (j : ℕ) → Same n x y → Same n (start-job x j) (start-job y j)
+start-same n x y j s i l =
+    by-eq i j (λ u. rw (u, slot-start-same x j, slot-start-same y j) (ap suc (s j (omega arith))))
+    (λ u. slot-start-other x j i u ∙ s i l ∙ sym (slot-start-other y j i u))
+
+module _ (ts : List Task) (h : ℕ) where
+  abbrev G : Setting
+  G = setting-of ts h
+
+  -- the rules that a start breaks
+  breaks-same : (x y : List ℕ) (f i t : ℕ) → Same (length ts) x y → entry-breaks ts h x f i t ≡ entry-breaks ts h y f i t
+  breaks-same x y f i t s = by-bool (ltb i (length ts)) (λ b. rw (s i (ltb-true i (length ts) b))) (λ b. rw b)
+
+  -- the task that priority runs
+  priority-same : (x y : List ℕ) (t : ℕ) → Same (length ts) x y → by-priority ts h x t ≡ by-priority ts h y t
+  priority-same x y t s =
+      ap (run-lowest (length ts)) (lowest-from-same (length ts) 0 (waiting ts h x t) (waiting ts h y t) (λ j l. rw (s j (omega arith))))
+
+  -- and what is decided
+  decided-same : (x y : List ℕ) (t : ℕ) (idles : List Idle) (p : List Inversion) → Same (length ts) x y →
+      decided-by G x t idles p ≡ decided-by G y t idles p
+  decided-same x y t idles p s =
+      decide-same G x y t (first-idle idles t) (delays G p x) (delays G p y) (priority-same x y t s) (λ i l. rw (s i l))
+
+  -- replay depends only on the slots of the set's tasks
+  pub replay-same : (N : ℕ) (x y : List ℕ) (f : ℕ) (idles : List Idle) (p : List Inversion) → Same (length ts) x y →
+      replay-from G N x f idles p ≡ replay-from G N y f idles p
+  replay-same zero x y f idles p s = refl
+  replay-same (suc N) x y f idles p s =
+      let o = all-started-same h ts x y s in
+      let t : ℕ = instant G y f in
+      let u : instant G x f ≡ t = ap (max f) (least-release-same h ts x y s) in
+      let d = decided-same x y t idles p s in
+      by-bool (all-started h ts y) (λ b. rw (o, b, replay-from))
+      (λ b.
+      let ox : all-started h ts x ≡ false = o ∙ b in
+      by-choice (decided-by G y t idles p)
+      (λ l c. let dx : decided-by G x (instant G x f) idles p ≡ idle-for l = rw u (d ∙ c) in
+      rw (ox, b, dx, c, replay-from) (rw u (replay-same N x y (t + l) (later-idles idles) p s)))
+      (λ i c.
+      let dx : decided-by G x (instant G x f) idles p ≡ start-task i = rw u (d ∙ c) in
+      let e : late (entry-breaks ts h x (instant G x f) i (instant G x f)) ≡ late (entry-breaks ts h y t i t) = rw u (ap late (breaks-same x y t i t s)) in
+      by-nat (late (entry-breaks ts h y t i t))
+      (λ z. let ex : late (entry-breaks ts h x (instant G x f) i (instant G x f)) ≡ 0 = e ∙ z in
+      rw (ox, b, dx, c, ex, z, replay-from)
+      (rw u
+      (ap (start-before (record { task = i; start = t }))
+      (replay-same N (start-job x i) (start-job y i) (G .free-after i t) idles p (start-same (length ts) x y i s)))))
+      (λ m z. let ex : late (entry-breaks ts h x (instant G x f) i (instant G x f)) ≡ suc m = e ∙ z in rw (ox, b, dx, c, ex, z, replay-from)))
+      (λ r c. let dx : decided-by G x (instant G x f) idles p ≡ wait-till r = rw u (d ∙ c) in
+      by-bool (ltb r h) (λ z. rw (ox, b, dx, c, z, replay-from) (replay-same N x y r idles p s)) (λ z. rw (ox, b, dx, c, z, replay-from))))
+
+-- at a cycle's start next job numbers are possible
+pub counts-zero : (h : ℕ) (ts : List Task) (x : List ℕ) → Same (length ts) x [] → counts-possible h ts x ≡ true
+counts-zero h [] x s = refl
+counts-zero h (t ∷ ts) x s =
+    let a : head₀ x ≡ 0 = s 0 (omega arith) in
+    rw (le-leb (head₀ x) (jobs h t) (omega arith)) (counts-zero h ts (tail₀ x) (λ i l. s (suc i) (omega arith)))
+
+-- and stay so when a job that is left starts
+pub counts-start : (h : ℕ) (ts : List Task) (x : List ℕ) (i : ℕ) → counts-possible h ts x ≡ true → slot x i < jobs h (task ts i) →
+    counts-possible h ts (start-job x i) ≡ true
+counts-start h [] x i c l = refl
+counts-start h (t ∷ ts) x zero c l = both-in _ _ (le-leb (suc (head₀ x)) (jobs h t) l) (both-true (leb (head₀ x) (jobs h t)) _ c .1)
+counts-start h (t ∷ ts) x (suc i) c l =
+    let a = both-true (leb (head₀ x) (jobs h t)) _ c in both-in _ _ (a .0) (counts-start h ts (tail₀ x) i (a .1) l)

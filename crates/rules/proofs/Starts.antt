@@ -1,0 +1,123 @@
+-- The next start by offsets is the next start of the tables that the offsets show. Assumes nothing.
+use mathlib.Core.Path.{_≡_, refl, _∙_, ap}
+use mathlib.Core.Bool.{Bool, true, false}
+use mathlib.Core.List.{List, _∷_}
+use mathlib.Core.Option.{Option, none, some}
+use Prim.Native.Nat.{ℕ, zero, suc, _+_, _≤_, _<_}
+use native.Mathlib.Omega.{arith}
+use lib.Dec.{ltb}
+use Rattle.rules.specs.declared.Entry.{Entry}
+use Rattle.rules.specs.declared.Idle.{Idle}
+use Rattle.rules.specs.declared.Inversion.{Inversion}
+use Rattle.rules.specs.Refusals.{gives}
+use Rattle.rules.specs.Setting.{Setting, lowest-from, lowest, instant}
+use Rattle.rules.specs.Priority.{slot}
+use Rattle.rules.specs.Decision.{first-idle, later-idles, falls-at, start-or-baseline, recorded, decide, delays, replay-from}
+use Rattle.rules.specs.Offsets.{Source, past-own, idle-now, past-idle, next-is, all-readable, shown-delays, next-start-in, next-start, moved}
+use Rattle.rules.proofs.Cases.{by-bool, by-eq, by-nat, by-choice, both-in, clash}
+use Rattle.rules.proofs.Theory.{Laws, ValidFrom, entry, Pairs}
+use Rattle.rules.proofs.RoundTrip.{decided-by}
+use Rattle.rules.proofs.Replayed.{yields}
+use Rattle.rules.proofs.NextStart.{starts, stops, next, next-more, replay-next}
+use Rattle.rules.proofs.Shown.{ShowsIdles, no-idle, an-idle, ShowsInversions, from, idles-readable, shown-readable, own-as-table, past-as-table, slot-put-same, slot-put-other}
+
+-- tests that agree on the numbers in question have the same lowest that passes
+pub lowest-from-same : (m i : ℕ) (a b : ℕ → Bool) → ((j : ℕ) → j < i + m → a j ≡ b j) → lowest-from m i a ≡ lowest-from m i b
+lowest-from-same zero i a b h = refl
+lowest-from-same (suc m) i a b h =
+    by-bool (b i) (λ e. let e′ : a i ≡ true = h i (omega arith) ∙ e in rw (e, e′, lowest-from))
+    (λ e. let e′ : a i ≡ false = h i (omega arith) ∙ e in rw (e, e′, lowest-from) (lowest-from-same m (suc i) a b (λ j l. h j (omega arith))))
+
+-- decisions agree where the baseline and the recorded jobs do
+pub decide-same : (G : Setting) (x y : G .Started) (t : ℕ) (idle : Option ℕ) (d e : ℕ → Option ℕ) → G .baseline x t ≡ G .baseline y t →
+    ((i : ℕ) → i < G .tasks → recorded G d x t i ≡ recorded G e y t i) → decide G x t idle d ≡ decide G y t idle e
+decide-same G x y t (some l) d e b h = refl
+decide-same G x y t none d e b h =
+    rw (lowest-from-same (G .tasks) 0 (recorded G d x t) (recorded G e y t) (λ j l. h j (omega arith))) (then-same (lowest (G .tasks) (recorded G e y t)))
+  where
+    -- whichever task has a record for now
+    then-same : (o : Option ℕ) → start-or-baseline G x t o ≡ start-or-baseline G y t o
+    then-same none = rw b
+    then-same (some i) = refl
+
+-- the idle record that an offset shows is the first unused one
+idle-as-table : {S : Source} {o : ℕ} {idles : List Idle} → ShowsIdles S o idles → (t : ℕ) → idle-now (S .idle-shown o) t ≡ first-idle idles t
+idle-as-table (no-idle e) t = rw e
+idle-as-table (an-idle e s) t = rw e
+
+-- and behind it stand the later ones
+past-idle-shown : {S : Source} {o : ℕ} {idles : List Idle} → ShowsIdles S o idles → ShowsIdles S (past-idle (S .idle-shown o) o) (later-idles idles)
+past-idle-shown (no-idle e) = rw e (no-idle e)
+past-idle-shown (an-idle e s) = rw e s
+
+-- the first entry of a valid timetable breaks no rule
+valid-first : {G : Setting} {x : G .Started} {f : ℕ} {e : Entry} {τ : List Entry} → ValidFrom G x f (e ∷ τ) → G .breaks x f (e .task) (e .start) ≡ 0
+valid-first (entry v w) = v
+
+module _ (G : Setting) (S : Source) (p : List Inversion) where
+  -- each task's offset shows the table's records from its next job on
+  abbrev pub Placed : G .Started → List ℕ → Type 0
+  Placed x offsets = (i : ℕ) → i < G .tasks → ShowsInversions S (slot offsets i) (from i (G .next-job x i) p)
+
+  module _ (z : Pairs 0 0 p) (x : G .Started) (offsets : List ℕ) (placed : Placed x offsets) where
+    -- what is decided at offsets is what is decided by the tables
+    decided-as-table : (t o : ℕ) (idles : List Idle) → ShowsIdles S o idles →
+        decide G x t (idle-now (S .idle-shown o) t) (shown-delays G S x offsets) ≡ decided-by G x t idles p
+    decided-as-table t o idles s =
+        rw (idle-as-table s t)
+        (decide-same G x x t (first-idle idles t) (shown-delays G S x offsets) (delays G p x) refl
+        (λ i l. ap (λ (d : Option ℕ). falls-at d (G .release i (G .next-job x i)) t)
+        (own-as-table S i (G .next-job x i) 0 0 p z (slot offsets i) (placed i l))))
+
+    -- all offsets can be read
+    readable-at : (o : ℕ) (idles : List Idle) → ShowsIdles S o idles → all-readable G S offsets o ≡ true
+    readable-at o idles s =
+        both-in _ _ (idles-readable s) (shown-readable S (G .tasks) offsets (λ i. from i (G .next-job x i) p) placed)
+
+    -- a start by tables is the start by offsets that show them, and the ID offset then shows the idle records left
+    pub follows : {A : Type 0} (N f o : ℕ) (idles : List Idle) (i t : ℕ) (k : List Idle) → ShowsIdles S o idles → next G N x f idles p ≡ starts i t k →
+        ((w : ℕ) → next-start-in G S N x f offsets o ≡ next-is i t w → ShowsIdles S w k → A) → A
+    follows zero f o idles i t k s e go = clash (cc)
+    follows (suc N) f o idles i t k s e go =
+        let u : ℕ = instant G x f in
+        let c = decided-as-table u o idles s in
+        let r = readable-at o idles s in
+        by-choice (decided-by G x u idles p)
+        (λ l d. follows N (u + l) (past-idle (S .idle-shown o) o) (later-idles idles) i t k (past-idle-shown s) (rw (d, next) at e)
+        (λ w n y. go w (rw (r, c ∙ d, next-start-in) n) y))
+        (λ j d. by-nat (G .breaks-in-replay x u j u)
+        (λ b. let g : starts j u idles ≡ starts i t k = rw (d, b, next) at e in
+        let a₁ : j ≡ i = cc in
+        let a₂ : u ≡ t = cc in
+        let a₃ : idles ≡ k = cc in
+        go o (rw (r, c ∙ d, b, next-start-in) (rw (a₁, a₂))) (rw a₃ at s))
+        (λ m b. let g : stops (suc m) ≡ starts i t k = rw (d, b, next) at e in clash (cc)))
+        (λ v d. by-bool (ltb v (G .cycle-end))
+        (λ b. follows N v o idles i t k s (rw (d, b, next) at e) (λ w n y. go w (rw (r, c ∙ d, b, next-start-in) n) y))
+        (λ b. let g : stops 18 ≡ starts i t k = rw (d, b, next) at e in clash (cc)))
+
+  module _ (L : Laws G) (z : Pairs 0 0 p) where
+    -- after a start each task's offset shows its records from its next job on again
+    placed-moved : (x : G .Started) (offsets : List ℕ) (f i s : ℕ) → G .breaks x f i s ≡ 0 → Placed x offsets →
+        Placed (G .start-job x i) (moved G S x offsets i)
+    placed-moved x offsets f i s e placed j l =
+        let v : ℕ = past-own (S .inversion-shown (slot offsets i)) i (G .next-job x i) (slot offsets i) in
+        by-eq j i
+        (λ u. rw (u, slot-put-same offsets i v, L .next-moves x f i s e)
+        (past-as-table S i (G .next-job x i) 0 0 p z (slot offsets i) (placed i (L .a-task x f i s e))))
+        (λ u. rw (slot-put-other offsets i j v u, L .others-stay x i j u) (placed j l))
+
+    -- the first start of a replay that gives a timetable, by offsets
+    pub first-start : {A : Type 0} (N : ℕ) (x : G .Started) (f : ℕ) (idles : List Idle) (e : Entry) (σ : List Entry) (offsets : List ℕ) (o : ℕ) →
+        N ≤ suc (G .latest) → replay-from G N x f idles p ≡ gives (e ∷ σ) → Placed x offsets → ShowsIdles S o idles →
+        ((M w : ℕ) (k : List Idle) → M < N → G .all-started x ≡ false → G .breaks x f (e .task) (e .start) ≡ 0 →
+        next-start G S x f offsets o ≡ next-is (e .task) (e .start) w → ShowsIdles S w k →
+        replay-from G M (G .start-job x (e .task)) (G .free-after (e .task) (e .start)) k p ≡ gives σ →
+        Placed (G .start-job x (e .task)) (moved G S x offsets (e .task)) → A) → A
+    first-start N x f idles e σ offsets o le h placed s go =
+        let b : G .breaks x f (e .task) (e .start) ≡ 0 = valid-first (yields G L N x f idles p (e ∷ σ) h) in
+        replay-next G N x f idles p e σ h
+        (λ M k a all n g.
+        follows z x offsets placed (suc (G .latest)) f o idles (e .task) (e .start) k s
+        (next-more G N (suc (G .latest)) x f idles p (e .task) (e .start) k le n)
+        (λ w m c. go M w k a all b m c g (placed-moved x offsets f (e .task) (e .start) b placed)))

@@ -1,0 +1,173 @@
+-- What the dispatcher sees at byte offsets, and the next start from there: document 01, "The dispatcher". Records are read by the same table of marks as
+-- in framing. Assumes nothing.
+use mathlib.Core.Bool.{Bool, true, false}
+use mathlib.Core.List.{List, [], _∷_, _++_}
+use mathlib.Core.Option.{Option, none, some}
+use Prim.Native.Nat.{ℕ, zero, suc, _+_, _*_, _-_}
+use lib.Dec.{ltb, leb, eqb}
+use lib.ListN.{length, getD, drop, replicate}
+use Rattle.fields.specs.Body.{head₀, tail₀}
+use Rattle.rules.specs.declared.Task.{Task}
+use Rattle.rules.specs.declared.Idle.{Idle}
+use Rattle.rules.specs.declared.Inversion.{Inversion}
+use Rattle.rules.specs.declared.Offsets.{Offsets as OffsetsOf}
+use Rattle.rules.specs.Tasks.{both, hyperperiod, limits}
+use Rattle.rules.specs.Setting.{Setting, Tables, instant}
+use Rattle.rules.specs.Priority.{slot}
+use Rattle.rules.specs.Decision.{Choice, idle-for, start-task, wait-till, decide, idle-at}
+use Rattle.rules.specs.Judging.{idle-in-range, inversion-in-range}
+use Rattle.rules.specs.Marks.{Mark, TS, TK, SL, ID, PV, EN, row, marks, size, mark-in, values}
+use Rattle.rules.specs.Image.{Record, record-of, to-idle, to-inversion}
+
+-- what an offset shows: nothing that may stand there, no record of the kind looked for, or a record and the offset after it
+pub data Shown (A : Type 0) : Type 0 where
+  unreadable : Shown A
+  no-record : Shown A
+  shows : A → ℕ → Shown A
+
+-- what is lent to the dispatcher, read at offsets
+pub record Source : Type 0 where
+  pub idle-shown : ℕ → Shown Idle
+  pub inversion-shown : ℕ → Shown Inversion
+
+-- an offset has 32 bits: a record is whole if it ends inside the image and at or before this byte
+abbrev pub last-offset : ℕ
+last-offset = 4294967295
+
+abbrev pub whole-record : ℕ → List ℕ → Option Mark → Option Record
+whole-record o front none = none
+whole-record o front (some m) =
+    elim (both (leb (size m) (length front)) (leb (o + size m) last-offset)) [ true ↦ some (record-of m (values m front)) | false ↦ none ]
+
+-- the whole record at an offset
+unfoldable pub record-at : List ℕ → ℕ → Option Record
+record-at bytes o = whole-record o (drop o bytes) (mark-in marks (getD (drop o bytes) 0 0) (getD (drop o bytes) 1 0))
+
+abbrev pub shown-if : {A : Type 0} → Bool → Shown A → Shown A
+shown-if true shown = shown
+shown-if false shown = unreadable
+
+-- at the ID offset stands a whole ID, PV or EN, at a task's a whole PV or EN; a record outside its own range is unreadable
+module _ (ts : List Task) (o : ℕ) where
+  abbrev pub idle-by : Mark → List ℕ → Shown Idle
+  idle-by TS v = unreadable
+  idle-by TK v = unreadable
+  idle-by SL v = unreadable
+  idle-by ID v = shown-if (idle-in-range (hyperperiod ts) (to-idle v)) (shows (to-idle v) (o + size ID))
+  idle-by PV v = shown-if (inversion-in-range ts (hyperperiod ts) (to-inversion v)) no-record
+  idle-by EN v = no-record
+
+  abbrev pub inversion-by : Mark → List ℕ → Shown Inversion
+  inversion-by TS v = unreadable
+  inversion-by TK v = unreadable
+  inversion-by SL v = unreadable
+  inversion-by ID v = unreadable
+  inversion-by PV v = shown-if (inversion-in-range ts (hyperperiod ts) (to-inversion v)) (shows (to-inversion v) (o + size PV))
+  inversion-by EN v = no-record
+
+  abbrev pub idle-in : Option Record → Shown Idle
+  idle-in none = unreadable
+  idle-in (some r) = idle-by (r .mark) (r .values)
+
+  abbrev pub inversion-in : Option Record → Shown Inversion
+  inversion-in none = unreadable
+  inversion-in (some r) = inversion-by (r .mark) (r .values)
+
+-- an image as a source
+abbrev pub lent : List ℕ → List Task → Source
+lent bytes ts = record { idle-shown = λ o. idle-in ts o (record-at bytes o); inversion-shown = λ o. inversion-in ts o (record-at bytes o) }
+
+-- is it the record of job k of task i
+abbrev pub is-of : Inversion → ℕ → ℕ → Bool
+is-of r i k = both (eqb (r .task) i) (eqb (r .job) k)
+
+-- the delay that a task's offset shows for its next job, and the offset after that job has started
+abbrev pub own-delay : Shown Inversion → ℕ → ℕ → Option ℕ
+own-delay unreadable i k = none
+own-delay no-record i k = none
+own-delay (shows r after) i k = elim (is-of r i k) [ true ↦ some (r .delay) | false ↦ none ]
+
+abbrev pub past-own : Shown Inversion → ℕ → ℕ → ℕ → ℕ
+past-own unreadable i k o = o
+past-own no-record i k o = o
+past-own (shows r after) i k o = elim (is-of r i k) [ true ↦ after | false ↦ o ]
+
+-- the length of the idle record that an offset shows, if it starts at this instant, and the offset after it
+abbrev pub idle-now : Shown Idle → ℕ → Option ℕ
+idle-now unreadable t = none
+idle-now no-record t = none
+idle-now (shows r after) t = idle-at r t
+
+abbrev pub past-idle : Shown Idle → ℕ → ℕ
+past-idle unreadable o = o
+past-idle no-record o = o
+past-idle (shows r after) o = after
+
+abbrev pub readable : {A : Type 0} → Shown A → Bool
+readable unreadable = false
+readable no-record = true
+readable (shows r after) = true
+
+abbrev pub tasks-readable : Source → ℕ → List ℕ → Bool
+tasks-readable S zero offsets = true
+tasks-readable S (suc n) offsets = both (readable (S .inversion-shown (head₀ offsets))) (tasks-readable S n (tail₀ offsets))
+
+-- a list of slots with another number in one of them
+abbrev pub put-slot : List ℕ → ℕ → ℕ → List ℕ
+put-slot x zero v = v ∷ tail₀ x
+put-slot x (suc i) v = head₀ x ∷ put-slot (tail₀ x) i v
+
+-- the next start: task, instant, and the ID offset after it; or the number of what stops it
+pub data NextStart : Type 0 where
+  next-is : ℕ → ℕ → ℕ → NextStart
+  stuck : ℕ → NextStart
+
+module _ (G : Setting) (S : Source) where
+  -- all current offsets are read at every decision
+  abbrev pub all-readable : List ℕ → ℕ → Bool
+  all-readable offsets o = both (readable (S .idle-shown o)) (tasks-readable S (G .tasks) offsets)
+
+  abbrev pub shown-delays : G .Started → List ℕ → ℕ → Option ℕ
+  shown-delays x offsets i = own-delay (S .inversion-shown (slot offsets i)) i (G .next-job x i)
+
+  -- in enough turns: what has started, the instant from which the processor is free, the tasks' offsets, the ID offset
+  abbrev pub next-start-in : ℕ → G .Started → ℕ → List ℕ → ℕ → NextStart
+  next-start-in zero x f offsets o = stuck 18
+  next-start-in (suc turns) x f offsets o =
+      elim (all-readable offsets o) [
+        | false ↦ stuck 25
+        | true ↦ elim (decide G x (instant G x f) (idle-now (S .idle-shown o) (instant G x f)) (shown-delays x offsets)) [
+          | idle-for l ↦ next-start-in turns x (instant G x f + l) offsets (past-idle (S .idle-shown o) o)
+          | start-task i ↦ elim (G .breaks-in-replay x (instant G x f) i (instant G x f)) [ zero ↦ next-is i (instant G x f) o | suc number ↦ stuck (suc number) ]
+          | wait-till r ↦ elim (ltb r (G .cycle-end)) [ true ↦ next-start-in turns x r offsets o | false ↦ stuck 18 ]
+        ]
+      ]
+
+  abbrev pub next-start : G .Started → ℕ → List ℕ → ℕ → NextStart
+  next-start x f offsets o = next-start-in (suc (G .latest)) x f offsets o
+
+  -- the tasks' offsets after the next job of task i has started: a started job's own PV moves its offset to the record after it
+  abbrev pub moved : G .Started → List ℕ → ℕ → List ℕ
+  moved x offsets i = put-slot offsets i (past-own (S .inversion-shown (slot offsets i)) i (G .next-job x i) (slot offsets i))
+
+-- offsets as at a cycle's start: the first record behind the tasks, and for each task the first PV of its number or a higher one, else EN
+abbrev pub tables-offset : List Task → ℕ
+tables-offset ts = size TS + length ts * size TK
+
+abbrev pub lower-before : ℕ → List Inversion → ℕ
+lower-before i [] = 0
+lower-before i (r ∷ p) = elim (ltb (r .task) i) [ true ↦ suc (lower-before i p) | false ↦ 0 ]
+
+abbrev pub inversion-offset : List Task → Tables → ℕ → ℕ
+inversion-offset ts X i = tables-offset ts + length (X .idles) * size ID + lower-before i (X .inversions) * size PV
+
+abbrev pub inversion-offsets : List Task → Tables → ℕ → ℕ → List ℕ
+inversion-offsets ts X i zero = []
+inversion-offsets ts X i (suc many) = inversion-offset ts X i ∷ inversion-offsets ts X (suc i) many
+
+-- slots from n up begin at 0
+abbrev pub first-offsets : List Task → Tables → OffsetsOf
+first-offsets ts X = record {
+  idle = tables-offset ts;
+  inversions = inversion-offsets ts X 0 (length ts) ++ replicate (limits .tasks - length ts) 0;
+}

@@ -1,0 +1,54 @@
+-- What the promises on images are stated with: tables that are exactly a timetable's irregularities, the two kinds of image that are accepted, and what
+-- refuses an image. Assumes nothing.
+use mathlib.Core.Path.{_≡_}
+use mathlib.Core.Logic.{_↔_}
+use mathlib.Core.List.{List, [], _∷_, _++_, List·Memᴰ}
+use mathlib.Core.Option.{Option, none, some}
+use Prim.Native.Nat.{ℕ, _<_}
+use lib.ListN.{length}
+use Rattle.rules.specs.declared.Task.{Task}
+use Rattle.rules.specs.declared.Entry.{Entry}
+use Rattle.rules.specs.declared.Inversion.{Inversion}
+use Rattle.rules.specs.declared.Refusal.{Refusal}
+use Rattle.rules.specs.Refusals.{Judged, gives, First}
+use Rattle.rules.specs.Tasks.{GoodSet, hyperperiod, set-tests}
+use Rattle.rules.specs.Timetable.{ValidTimetable}
+use Rattle.rules.specs.Setting.{Tables}
+use Rattle.rules.specs.Irregularities.{ForcedIdles, IsInversion}
+use Rattle.rules.specs.Order.{PairRises, timetable-tests, RefusesTables}
+use Rattle.rules.specs.Image.{timetable-image, table-image}
+use Rattle.rules.specs.Framing.{RefusesFraming, start-place}
+use Rattle.rules.specs.Operations.{Timed, Tabled, read-timetable, read-tables}
+
+-- the tables of a timetable: its forced idles in the order of entries; its inversions and no others, with pairs strictly rising
+pub record HasTables (ts : List Task) (h : ℕ) (τ : List Entry) (X : Tables) : Type 0 where
+  pub its-idles : ForcedIdles ts h τ 0 (X .idles)
+  pub its-inversions : (r : Inversion) → List·Memᴰ r (X .inversions) ↔ IsInversion ts h τ r
+  pub pairs-rise : (j : ℕ) → j < length (X .inversions) → PairRises (X .inversions) j
+
+-- the image of a good set and a valid timetable
+pub record TimetableImage (bytes : List ℕ) (ts : List Task) (τ : List Entry) : Type 0 where
+  pub h : ℕ
+  pub good : GoodSet ts h
+  pub valid : ValidTimetable ts h τ
+  pub is : bytes ≡ timetable-image ts τ
+
+-- the image of a good set and of the tables that a valid timetable has
+pub record TableImage (bytes : List ℕ) (ts : List Task) (τ : List Entry) : Type 0 where
+  pub h : ℕ
+  pub tables : Tables
+  pub good : GoodSet ts h
+  pub valid : ValidTimetable ts h τ
+  pub has : HasTables ts h τ tables
+  pub is : bytes ≡ table-image ts tables
+
+-- what refuses a timetable image: framing; or else the set, then the entries
+pub data RefusesTimetableImage (bytes : List ℕ) : Refusal → Type 1 where
+  by-framing : {r : Refusal} → RefusesFraming 1 start-place bytes r → RefusesTimetableImage bytes r
+  by-a-test : {r : Refusal} {i : Timed} → read-timetable bytes ≡ gives i →
+      First (set-tests (i .tasks) ++ timetable-tests (i .tasks) (hyperperiod (i .tasks)) (i .entries)) (some r) → RefusesTimetableImage bytes r
+
+-- what refuses a table image: framing; or else the set, then the records, then a late job in replay, then a difference
+pub data RefusesTableImage (bytes : List ℕ) : Refusal → Type 1 where
+  by-framing : {r : Refusal} → RefusesFraming 2 start-place bytes r → RefusesTableImage bytes r
+  by-its-tables : {r : Refusal} {i : Tabled} → read-tables bytes ≡ gives i → RefusesTables (i .tasks) (i .tables) r → RefusesTableImage bytes r

@@ -1,0 +1,138 @@
+-- Task sets: document 01, "Task sets". A good set as the list of its rules, and the first fault of a set. Assumes nothing.
+use mathlib.Core.Bool.{Bool, true, false}
+use mathlib.Core.List.{List, [], _∷_, _++_}
+use mathlib.Core.Option.{Option, none, some}
+use Prim.Native.Nat.{ℕ, zero, suc, _+_, _*_, _/_, _%_, _≤_, _<_, _∣_}
+use lib.Dec.{leb}
+use lib.ListN.{length, getD, take}
+use Rattle.rules.specs.declared.Task.{Task}
+use Rattle.rules.specs.declared.TaskSet.{TaskSet}
+use Rattle.rules.specs.declared.Refusal.{Refusal}
+use Rattle.rules.specs.declared.Figures.{Figures}
+use Rattle.rules.specs.declared.SetAnswer.{SetAnswer}
+use Rattle.rules.specs.declared.SetAnswer.the-variants.{Good, Refused}
+use Rattle.rules.specs.Refusals.{Judged, gives, refuses, or-else, first, unless, Test, test, in-turn}
+
+-- the limits: tasks of a set, ticks of a cycle, jobs of a cycle
+pub record Limits : Type 0 where
+  pub tasks : ℕ
+  pub ticks : ℕ
+  pub jobs : ℕ
+
+abbrev pub limits : Limits
+limits = record { tasks = 16; ticks = 65535; jobs = 4096 }
+
+-- task i of a set; past the end a task that keeps every rule
+abbrev pub no-task : Task
+no-task = record { offset = 0; time = 1; period = 1; deadline = 1 }
+
+abbrev pub task : List Task → ℕ → Task
+task ts i = getD ts i no-task
+
+-- job k of a task is released at O + kT, and due D later
+abbrev pub release : Task → ℕ → ℕ
+release t k = t .offset + k * t .period
+
+abbrev pub due : Task → ℕ → ℕ
+due t k = release t k + t .deadline
+
+-- a task has H/T jobs a cycle
+abbrev pub jobs : ℕ → Task → ℕ
+jobs h t = h / t .period
+
+-- the jobs of all tasks together
+abbrev pub all-jobs : ℕ → List Task → ℕ
+all-jobs h [] = 0
+all-jobs h (t ∷ ts) = jobs h t + all-jobs h ts
+
+-- a task's own rule: 1 ≤ C ≤ D and O + D ≤ T
+pub record KeepsItsRule (t : Task) : Type 0 where
+  pub takes-time : 1 ≤ t .time
+  pub fits : t .time ≤ t .deadline
+  pub within : t .offset + t .deadline ≤ t .period
+
+-- the hyperperiod: every period divides it, and it divides every other number that every period divides
+pub record IsHyperperiod (ts : List Task) (h : ℕ) : Type 0 where
+  pub common : (i : ℕ) → i < length ts → task ts i .period ∣ h
+  pub least : (m : ℕ) → ((i : ℕ) → i < length ts → task ts i .period ∣ m) → h ∣ m
+
+-- a good set, with its hyperperiod
+pub record GoodSet (ts : List Task) (h : ℕ) : Type 0 where
+  pub some-tasks : 1 ≤ length ts
+  pub few-tasks : length ts ≤ limits .tasks
+  pub own-rules : (i : ℕ) → i < length ts → KeepsItsRule (task ts i)
+  pub periods-rise : (i : ℕ) → suc i < length ts → task ts i .period ≤ task ts (suc i) .period
+  pub is-hyperperiod : IsHyperperiod ts h
+  pub short : h ≤ limits .ticks
+  pub few-jobs : all-jobs h ts ≤ limits .jobs
+
+-- the greatest common divisor by remainders, in enough turns, and the least common multiple
+abbrev pub gcd : ℕ → ℕ → ℕ → ℕ
+gcd zero a b = a
+gcd (suc turns) a b = elim b [ zero ↦ a | suc c ↦ gcd turns (suc c) (a % suc c) ]
+
+abbrev pub lcm : ℕ → ℕ → ℕ
+lcm a b = a / gcd (suc b) a b * b
+
+-- the hyperperiod of a set, worked out
+abbrev pub hyperperiod : List Task → ℕ
+hyperperiod [] = 1
+hyperperiod (t ∷ ts) = lcm (t .period) (hyperperiod ts)
+
+-- the tests of a task's own rule
+abbrev pub both : Bool → Bool → Bool
+both true b = b
+both false b = false
+
+abbrev pub keeps-its-rule : Task → Bool
+keeps-its-rule t = both (leb 1 (t .time)) (both (leb (t .time) (t .deadline)) (leb (t .offset + t .deadline) (t .period)))
+
+abbrev pub few-enough : ℕ → Bool
+few-enough n = both (leb 1 n) (leb n (limits .tasks))
+
+-- tasks in turn, each by 6 and then 7: the place of the first of them, and the period before it
+abbrev pub tasks-fault : ℕ → ℕ → List Task → Option Refusal
+tasks-fault place before [] = none
+tasks-fault place before (t ∷ ts) =
+    first (unless (keeps-its-rule t) 6 place) (first (unless (leb before (t .period)) 7 place) (tasks-fault (suc place) (t .period) ts))
+
+-- the first fault of a set, with the places that its records would have
+abbrev pub set-fault : List Task → Option Refusal
+set-fault ts =
+    first (unless (few-enough (length ts)) 5 0)
+    (first (tasks-fault 1 0 ts)
+    (first (unless (leb (hyperperiod ts) (limits .ticks)) 8 0) (unless (leb (all-jobs (hyperperiod ts) ts) (limits .jobs)) 9 0)))
+
+abbrev pub figures : List Task → Figures
+figures ts = record { hyperperiod = hyperperiod ts; jobs = all-jobs (hyperperiod ts) ts }
+
+-- the tests of a set in the document's order, each condition by itself
+abbrev pub period-falls : List Task → ℕ → Type 0
+period-falls ts zero = ⊥
+period-falls ts (suc i) = task ts (suc i) .period < task ts i .period
+
+abbrev pub task-tests : List Task → ℕ → List Test
+task-tests ts i = test 6 (suc i) (KeepsItsRule (task ts i) → ⊥) ∷ test 7 (suc i) (period-falls ts i) ∷ []
+
+abbrev pub set-tests : List Task → List Test
+set-tests ts =
+    test 5 0 ((1 ≤ length ts) × (length ts ≤ limits .tasks) → ⊥)
+    ∷ (in-turn (task-tests ts) 0 (length ts)
+    ++ (test 8 0 ((h : ℕ) × IsHyperperiod ts h × (limits .ticks < h))
+    ∷ test 9 0 ((h : ℕ) × IsHyperperiod ts h × (limits .jobs < all-jobs h ts))
+    ∷ []))
+
+-- a set in memory: n outside 1 to 16 is refused before any slot is read
+abbrev pub memory-fault : TaskSet → Option Refusal
+memory-fault s = first (unless (few-enough (s .n)) 5 0) (set-fault (take (s .n) (s .tasks)))
+
+abbrev pub memory-tests : TaskSet → List Test
+memory-tests s = test 5 0 ((1 ≤ s .n) × (s .n ≤ limits .tasks) → ⊥) ∷ set-tests (take (s .n) (s .tasks))
+
+abbrev pub set-answer : Judged Figures → SetAnswer
+set-answer (gives f) = Good f
+set-answer (refuses r) = Refused r
+
+-- judging a set in memory
+unfoldable pub judge-set : TaskSet → SetAnswer
+judge-set s = set-answer (or-else (memory-fault s) (gives (figures (take (s .n) (s .tasks)))))

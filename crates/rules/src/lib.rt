@@ -1,0 +1,132 @@
+// The types of the project: what document 01 speaks of, as the crates above pass it on. The rule book over them is in specs/.
+
+// A task: offset O, declared time C, period T, relative deadline D.
+#[repr(C)]
+pub struct Task {
+    pub offset: u32,
+    pub time: u32,
+    pub period: u32,
+    pub deadline: u32,
+}
+
+// A set of n tasks, in the first n slots.
+#[repr(C)]
+pub struct TaskSet {
+    pub n: u32,
+    pub tasks: [Task; 16],
+}
+
+// An entry of a timetable.
+pub struct Entry {
+    pub task: u32,
+    pub start: u32,
+}
+
+// A forced idle, as an ID record holds it.
+pub struct Idle {
+    pub start: u32,
+    pub length: u32,
+}
+
+// An inversion, as a PV record holds it.
+pub struct Inversion {
+    pub task: u32,
+    pub job: u32,
+    pub delay: u32,
+}
+
+// The refusal that every operation gives: its number and its place.
+pub struct Refusal {
+    pub number: u32,
+    pub place: usize,
+}
+
+// Where framing stands before a record: the record's index and byte offset, the least rank that it may have, TK records still due, and how many TK, SL or
+// ID, and PV records there are so far.
+pub struct Place {
+    pub index: usize,
+    pub offset: usize,
+    pub rank: usize,
+    pub due: usize,
+    pub tasks: usize,
+    pub listed: usize,
+    pub inversions: usize,
+}
+
+// What framing answers: how many TK records, SL or ID records, and PV records an image has, and the byte after EN.
+pub struct Layout {
+    pub tasks: usize,
+    pub listed: usize,
+    pub inversions: usize,
+    pub ended: usize,
+}
+
+// What a good set comes to: its hyperperiod and its jobs a cycle.
+pub struct Figures {
+    pub hyperperiod: u32,
+    pub jobs: u32,
+}
+
+// Judging a set.
+pub enum SetAnswer {
+    Good(Figures),
+    Refused(Refusal),
+}
+
+// Plain checking of an image.
+pub enum CheckAnswer {
+    Accepted,
+    Refused(Refusal),
+}
+
+// Deriving and rebuilding: the length of what now fills the front of the output.
+pub enum MakeAnswer {
+    Made(usize),
+    Refused(Refusal),
+}
+
+// A job that starts now: its cycle and absolute time.
+pub struct Start {
+    pub task: u32,
+    pub job: u32,
+    pub cycle: u32,
+    pub time: u64,
+}
+
+// Beginning and going on.
+pub enum StartAnswer {
+    Start(Start),
+    Refused(Refusal),
+}
+
+// Byte offsets into the image: of the ID to be used next and, for each task, of its next PV.
+#[repr(C)]
+pub struct Offsets {
+    pub idle: u32,
+    pub inversions: [u32; 16],
+}
+
+// The job that runs, with its start in the cycle.
+#[repr(C)]
+pub struct Running {
+    pub task: u32,
+    pub job: u32,
+    pub start: u32,
+}
+
+// The dispatcher's state, 119 numbers: the set, next job numbers, the cycle, the running job, offsets now and as at a cycle's start.
+#[repr(C)]
+pub struct Dispatcher {
+    pub set: TaskSet,
+    pub next: [u32; 16],
+    pub cycle: u32,
+    pub running: Running,
+    pub now: Offsets,
+    pub first: Offsets,
+}
+
+// What a call of the dispatcher hands back: the answer, and the state beside it.
+pub struct Turn {
+    pub answer: StartAnswer,
+    pub state: Dispatcher,
+}
