@@ -183,7 +183,7 @@ gives-made z result out e = (rw e, rw e)
 
 module _ (bytes old : List ℕ) (n : ℕ) (b : Bytes bytes) where
   -- where deriving answers with a length, the bytes are a timetable image, and the front of the output is that of its tables
-  derive-made : derive bytes old ≡ Made n → (ts : List Task) × (τ : List Entry) × TimetableImage bytes ts τ × (take n (derive-output bytes old) ≡ table-image ts (tables ts τ))
+  pub derive-made : derive bytes old ≡ Made n → (ts : List Task) × (τ : List Entry) × TimetableImage bytes ts τ × (take n (derive-output bytes old) ≡ table-image ts (tables ts τ))
   unfolding derive derive-output
   derive-made e =
       let m = made-gives (derived-image (length old) bytes) old n e in

@@ -103,12 +103,12 @@ module _ (ts : List Task) (h : ℕ) (τ : List Entry) where
 
 module _ (ts : List Task) (h : ℕ) where
   -- a start at or before the instant leaves no gap
-  no-gap : (turns : ℕ) (x : List ℕ) (t s : ℕ) → s ≤ t → gap (setting-of ts h) turns x t s ≡ []
+  pub no-gap : (turns : ℕ) (x : List ℕ) (t s : ℕ) → s ≤ t → gap (setting-of ts h) turns x t s ≡ []
   no-gap zero x t s le = refl
   no-gap (suc turns) x t s le = rw (le-ltb t s le, gap)
 
   -- a later start leaves the whole gap from the instant on: the baseline never waits
-  whole-gap : (turns : ℕ) (x : List ℕ) (t s : ℕ) → t < s → 0 < turns → gap (setting-of ts h) turns x t s ≡ record { start = t; length = s - t } ∷ []
+  pub whole-gap : (turns : ℕ) (x : List ℕ) (t s : ℕ) → t < s → 0 < turns → gap (setting-of ts h) turns x t s ≡ record { start = t; length = s - t } ∷ []
   whole-gap zero x t s lt some-turns = absurd (omega arith)
   whole-gap (suc turns) x t s lt some-turns =
       by-option (lowest (length ts) (waiting ts h x t)) (λ n. rw (lt-ltb t s lt, n, gap)) (λ i n. rw (lt-ltb t s lt, n, gap))

@@ -65,7 +65,7 @@ module _ (ts : List Task) where
       (λ e c. omega (arith, leb-true (task ts i .period) (task ts (suc i) .period) e)) (λ e. leb-false _ _ e)
 
   -- tasks in turn, from task i on
-  tasks-order : (i left : ℕ) → i + left ≡ length ts → First (in-turn (task-tests ts) i left) (tasks-fault (suc i) (period-before ts i) (drop i ts))
+  pub tasks-order : (i left : ℕ) → i + left ≡ length ts → First (in-turn (task-tests ts) i left) (tasks-fault (suc i) (period-before ts i) (drop i ts))
   tasks-order i zero e = rw (drop-of-length-le ts {i = i} (omega arith)) no-test
   tasks-order i (suc left) e =
       rw (drop-cons ts i no-task (omega arith))
@@ -77,7 +77,7 @@ module _ (ts : List Task) where
       let a = none-holds-at (task-tests ts) 0 (length ts) z i (omega arith) (omega arith) in
       (not-broken (keeps-its-rule (task ts i)) (task-keeps (task ts i)) (keeps-task (task ts i)) (a .0), a .1 .0)
 
-  periods-positive : NoneHolds (in-turn (task-tests ts) 0 (length ts)) → Positive ts
+  pub periods-positive : NoneHolds (in-turn (task-tests ts) 0 (length ts)) → Positive ts
   periods-positive z i l = keeps-period (task ts i) (tasks-keep z i l .0)
 
   -- number 8, of a set whose periods are at least 1

@@ -41,7 +41,7 @@ gcd-step a (suc c) h = gcd-turns (suc (a % suc c)) (suc c) (suc c) (a % suc c) (
 
 -- the least common multiple: both divide it, it divides whatever both divide, and it is at least 1
 module _ (a b : ℕ) (pos : 0 < a) where
-  lcm-left : a ∣ lcm a b
+  pub lcm-left : a ∣ lcm a b
   lcm-left =
       let g : ℕ = gcd (suc b) a b in
       let d = gcd-divides (suc b) a b (omega arith) in
@@ -50,10 +50,10 @@ module _ (a b : ℕ) (pos : 0 < a) where
       ∙ sym (mul-assoc (a / g) g (b / g)) ∙ ap (λ (y : ℕ). y * (b / g)) (div-mul-cancel g {m = a} (d .0)) in
       rw e (dvd-mul-right-of-dvd a (dvd-refl a) (b / g))
 
-  lcm-right : b ∣ lcm a b
+  pub lcm-right : b ∣ lcm a b
   lcm-right = dvd-mul-left b (a / gcd (suc b) a b)
 
-  lcm-least : (m : ℕ) → a ∣ m → b ∣ m → lcm a b ∣ m
+  pub lcm-least : (m : ℕ) → a ∣ m → b ∣ m → lcm a b ∣ m
   lcm-least m p q =
       let g : ℕ = gcd (suc b) a b in
       let d = gcd-divides (suc b) a b (omega arith) in
@@ -63,7 +63,7 @@ module _ (a b : ℕ) (pos : 0 < a) where
       let t : g * (a / g * b) ∣ g * m = subst (λ (y : ℕ). y ∣ g * m) e (subst (λ (y : ℕ). a * b ∣ y) (mul-comm m g) s) in
       dvd-of-mul-dvd-mul-left (a / g * b) (pos-of-dvd-of-pos (d .0) pos) t
 
-  lcm-positive : 0 < b → 0 < lcm a b
+  pub lcm-positive : 0 < b → 0 < lcm a b
   lcm-positive h =
       let g : ℕ = gcd (suc b) a b in
       let e : a / g * g ≡ a = div-mul-cancel g {m = a} (gcd-divides (suc b) a b (omega arith) .0) in

@@ -238,18 +238,18 @@ pub table-image-bytes : (ts : List Task) (X : Tables) → Bytes (table-image ts 
 table-image-bytes ts X = image-bytes (table-records ts X)
 
 -- records stand one behind the other
-image-append : (rs qs : List Record) → image (rs ++ qs) ≡ image rs ++ image qs
+pub image-append : (rs qs : List Record) → image (rs ++ qs) ≡ image rs ++ image qs
 image-append [] qs = refl
 image-append (r ∷ rs) qs = ap (λ (x : List ℕ). written r ++ x) (image-append rs qs) ∙ sym (append-assoc (written r) (image rs) (image qs))
 
 -- records of one mark have as many bytes each
-records-length : (m : Mark) (vs : List (List ℕ)) → length (image (records m vs)) ≡ length vs * size m
+pub records-length : (m : Mark) (vs : List (List ℕ)) → length (image (records m vs)) ≡ length vs * size m
 records-length m [] = omega arith
 records-length m (v ∷ vs) =
     omega (arith, length-append (written (record-of m v)) (image (records m vs)), written-length m v, records-length m vs)
 
 -- the tables begin behind TS and the TK records
-set-length : (kind : ℕ) (ts : List Task) → length (image (set-records kind ts)) ≡ tables-offset ts
+pub set-length : (kind : ℕ) (ts : List Task) → length (image (set-records kind ts)) ≡ tables-offset ts
 set-length kind ts = omega (arith, records-length TK (map of-task ts), length-map ts of-task)
 
 -- behind the bytes of records stand the others
@@ -276,7 +276,7 @@ inversions-stand ts X =
     ∙ drop-records (records ID us) _ o (omega (arith, records-length ID us, length-map (X .idles) of-idle))
 
 -- records have the bytes of the first of them and of the others
-both-lengths : (rs qs : List Record) → length (image (rs ++ qs)) ≡ length (image rs) + length (image qs)
+pub both-lengths : (rs qs : List Record) → length (image (rs ++ qs)) ≡ length (image rs) + length (image qs)
 both-lengths rs qs = ap length (image-append rs qs) ∙ length-append (image rs) (image qs)
 
 -- how long a timetable image is

@@ -64,7 +64,7 @@ module _ (ts : List Task) (h : ℕ) (x : List ℕ) (s i : ℕ) where
 
 module _ (ts : List Task) (h : ℕ) where
   -- a next job that is left and released is waiting
-  next-waits : (x : List ℕ) (s i : ℕ) → slot x i < jobs h (task ts i) → release (task ts i) (slot x i) ≤ s → waiting ts h x s i ≡ true
+  pub next-waits : (x : List ℕ) (s i : ℕ) → slot x i < jobs h (task ts i) → release (task ts i) (slot x i) ≤ s → waiting ts h x s i ≡ true
   next-waits x s i a-job released = both-in (is-left ts h x i) (leb (release (task ts i) (slot x i)) s) (lt-ltb _ _ a-job) (le-leb _ _ released)
 
   module _ (τ : List Entry) {j : ℕ} {x : List ℕ} {f : ℕ} {e : Entry} {σ : List Entry} (b : Before ts h τ j x f (e ∷ σ))

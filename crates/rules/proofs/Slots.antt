@@ -26,7 +26,7 @@ abbrev pub Same : ℕ → List ℕ → List ℕ → Type 0
 Same n x y = (i : ℕ) → i < n → slot x i ≡ slot y i
 
 -- whether all jobs have started depends only on the slots of the set's tasks
-all-started-same : (h : ℕ) (ts : List Task) (x y : List ℕ) → Same (length ts) x y → all-started h ts x ≡ all-started h ts y
+pub all-started-same : (h : ℕ) (ts : List Task) (x y : List ℕ) → Same (length ts) x y → all-started h ts x ≡ all-started h ts y
 all-started-same h [] x y s = refl
 all-started-same h (t ∷ ts) x y s =
     let a : head₀ x ≡ head₀ y = s 0 (omega arith) in
@@ -34,7 +34,7 @@ all-started-same h (t ∷ ts) x y s =
     (λ b. rw (a, b, all-started) (all-started-same h ts (tail₀ x) (tail₀ y) (λ i l. s (suc i) (omega arith))))
 
 -- and so do the least release
-least-release-same : (h : ℕ) (ts : List Task) (x y : List ℕ) → Same (length ts) x y → least-release h ts x ≡ least-release h ts y
+pub least-release-same : (h : ℕ) (ts : List Task) (x y : List ℕ) → Same (length ts) x y → least-release h ts x ≡ least-release h ts y
 least-release-same h [] x y s = refl
 least-release-same h (t ∷ ts) x y s =
     let a : head₀ x ≡ head₀ y = s 0 (omega arith) in
@@ -42,7 +42,7 @@ least-release-same h (t ∷ ts) x y s =
     by-bool (ltb (head₀ y) (jobs h t)) (λ b. rw (a, b, r, least-release) (rw a)) (λ b. rw (a, b, least-release) r)
 
 -- what has started after a start
-start-same : (n : ℕ) (x y : List ℕ) (j : ℕ) → Same n x y → Same n (start-job x j) (start-job y j)
+pub start-same : (n : ℕ) (x y : List ℕ) (j : ℕ) → Same n x y → Same n (start-job x j) (start-job y j)
 start-same n x y j s i l =
     by-eq i j (λ u. rw (u, slot-start-same x j, slot-start-same y j) (ap suc (s j (omega arith))))
     (λ u. slot-start-other x j i u ∙ s i l ∙ sym (slot-start-other y j i u))
@@ -52,11 +52,11 @@ module _ (ts : List Task) (h : ℕ) where
   G = setting-of ts h
 
   -- the rules that a start breaks
-  breaks-same : (x y : List ℕ) (f i t : ℕ) → Same (length ts) x y → entry-breaks ts h x f i t ≡ entry-breaks ts h y f i t
+  pub breaks-same : (x y : List ℕ) (f i t : ℕ) → Same (length ts) x y → entry-breaks ts h x f i t ≡ entry-breaks ts h y f i t
   breaks-same x y f i t s = by-bool (ltb i (length ts)) (λ b. rw (s i (ltb-true i (length ts) b))) (λ b. rw b)
 
   -- the task that priority runs
-  priority-same : (x y : List ℕ) (t : ℕ) → Same (length ts) x y → by-priority ts h x t ≡ by-priority ts h y t
+  pub priority-same : (x y : List ℕ) (t : ℕ) → Same (length ts) x y → by-priority ts h x t ≡ by-priority ts h y t
   priority-same x y t s =
       ap (run-lowest (length ts)) (lowest-from-same (length ts) 0 (waiting ts h x t) (waiting ts h y t) (λ j l. rw (s j (omega arith))))
 

@@ -78,18 +78,18 @@ idles-fit h from [] z b = tt
 idles-fit h from (r ∷ idles) z b = ((omega (arith, z .2), (omega (arith, z .2), tt)), idles-fit h (suc (r .start + r .length)) idles (z .3) b)
 
 -- and are no more than the cycle has ticks left
-idles-few : (h from : ℕ) (idles : List Idle) → Rising h from idles → length idles ≤ h - from
+pub idles-few : (h from : ℕ) (idles : List Idle) → Rising h from idles → length idles ≤ h - from
 idles-few h from [] z = omega arith
 idles-few h from (r ∷ idles) z = omega (arith, idles-few h (suc (r .start + r .length)) idles (z .3), z .0, z .1, z .2)
 
 -- a record inserted makes a table one longer
-insert-length : (e : Inversion) (p : List Inversion) → length (insert e p) ≡ suc (length p)
+pub insert-length : (e : Inversion) (p : List Inversion) → length (insert e p) ≡ suc (length p)
 insert-length e [] = refl
 insert-length e (r ∷ p) =
     by-bool (at-most (e .task) (e .job) (r .task) (r .job)) (λ b. rw (b, insert)) (λ b. rw (b, insert) (ap suc (insert-length e p)))
 
 -- a timetable has no more inversions than entries
-inversions-few : (G : Setting) (x : G .Started) (τ : List Entry) → length (inversions G x τ) ≤ length τ
+pub inversions-few : (G : Setting) (x : G .Started) (τ : List Entry) → length (inversions G x τ) ≤ length τ
 inversions-few G x [] = omega arith
 inversions-few G x (e ∷ τ) =
     let q : List Inversion = inversions G (G .start-job x (e .task)) τ in
@@ -98,11 +98,11 @@ inversions-few G x (e ∷ τ) =
 
 module _ (ts : List Task) (τ : List Entry) (good : set-fault ts ≡ none) (valid : ValidFrom (setting ts) [] 0 τ) where
   -- a valid timetable has no more entries than a cycle may have jobs
-  entries-few : length τ ≤ limits .jobs
+  pub entries-few : length τ ≤ limits .jobs
   entries-few = omega (arith, valid-from-length ts (hyperperiod ts) valid, all-left (hyperperiod ts) ts, good-set ts good .few-jobs)
 
   -- its forced idles rise within the cycle
-  its-idles-rise : Rising (hyperperiod ts) 0 (forced-idles (setting ts) [] 0 τ)
+  pub its-idles-rise : Rising (hyperperiod ts) 0 (forced-idles (setting ts) [] 0 τ)
   its-idles-rise = idles-rising (setting ts) (laws ts good) valid
 
   -- a valid timetable of a good set can be written

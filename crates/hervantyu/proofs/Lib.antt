@@ -1,0 +1,3 @@
+pub mod FilledSlots
+pub mod ToldAnswers
+pub mod Promises

@@ -1,0 +1,37 @@
+-- What an answer tells, whatever it is of: the number, the place, and what each lent number holds afterwards. Assumes nothing.
+use mathlib.Core.Path.{_≡_, refl, sym, ap}
+use mathlib.Core.List.{List}
+use Prim.Native.Nat.{ℕ, zero, suc, _≤_}
+use native.Mathlib.Omega.{arith}
+use Rattle.rules.specs.declared.Refusal.{Refusal}
+use Rattle.rules.specs.Refusals.{Told, tells, tells-refusal}
+use Rattle.rules.specs.Priority.{slot}
+use Rattle.rules.proofs.Cases.{clash}
+use Rattle.hervantyu.specs.Lent.{value-if, value-or}
+
+-- an answer with values: number and place are 0, and a lent number holds its value
+module _ (t : Told) (values : List ℕ) (e : t ≡ tells values) where
+  pub no-number : 0 ≡ t .number
+  no-number = sym (ap (λ (a : Told). a .number) e)
+
+  pub no-place : 0 ≡ t .place
+  no-place = sym (ap (λ (a : Told). a .place) e)
+
+  pub value-given : (i old : ℕ) → slot values i ≡ value-or t i old
+  value-given i old = sym (ap (λ (a : Told). value-or a i old) e)
+
+-- a number that is not 0 leaves what was lent as it was
+kept-by : (number : ℕ) (t : Told) (i old : ℕ) → 1 ≤ number → old ≡ value-if number t i old
+kept-by zero t i old h = clash (omega arith)
+kept-by (suc number) t i old h = refl
+
+-- a refusal: its number, its place, and a lent number holds what it held
+module _ (t : Told) (r : Refusal) (e : t ≡ tells-refusal r) where
+  pub its-number : r .number ≡ t .number
+  its-number = sym (ap (λ (a : Told). a .number) e)
+
+  pub its-place : r .place ≡ t .place
+  its-place = sym (ap (λ (a : Told). a .place) e)
+
+  pub value-kept : 1 ≤ r .number → (i old : ℕ) → old ≡ value-or t i old
+  value-kept h i old = kept-by (t .number) t i old (omega (arith, its-number))

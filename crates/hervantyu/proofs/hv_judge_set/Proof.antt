@@ -1,0 +1,44 @@
+-- `hervantyu::hv_judge_set` meets its contract: what it leaves is what the rule book's answer tells. Assumes nothing.
+use mathlib.Core.Path.{_≡_, sym, _∙_, ap}
+use native.Mathlib.Omega.{arith}
+use borrow.Author.Needs.{needs}
+use Rattle.rules.specs.Refusals.{set-tells}
+use Rattle.rules.specs.Tasks.{judge-set}
+use Rattle.rules.proofs.Promises.{set-refusals}
+use Rattle.hervantyu.specs.Lent.{set-from}
+use Rattle.hervantyu.proofs.ToldAnswers.{no-number, no-place, value-given, its-number, its-place, value-kept}
+use Rattle.hervantyu.proofs.hv_judge_set.Statement.{statement}
+use Rattle.hervantyu.proofs.hv_judge_set.Tie as tie
+
+-- the answer is the rule book's for the lent numbers
+answered : (c : tie.After-judge-set) → judge-set (set-from (c .before .before .args .n) (c .before .before .args .tasks .now)) ≡ c .judge-set .result
+answered c = sym (c .judge-set .ensures ∙ ap judge-set (c .before .set-from .ensures))
+
+set-from-requires : tie.Need-set-from-requires
+set-from-requires c κs = search needs
+
+judge-set-requires : tie.Need-judge-set-requires
+judge-set-requires c κs = search needs
+
+enum-known-f : tie.Need-enum-known-f
+enum-known-f c = search needs
+
+enum-known-r : tie.Need-enum-known-r
+enum-known-r c = search needs
+
+returns : tie.Need-returns
+returns c =
+    let told = ap set-tells (answered (c .before .before .before) ∙ c .before .f .given .1) in
+    (no-number _ _ told, (no-place _ _ told, (value-given _ _ told 0 _, value-given _ _ told 1 _)))
+
+returns-2 : tie.Need-returns-2
+returns-2 c =
+    let refused = answered (c .before .before .before) ∙ c .before .r .given .1 in
+    let told = ap set-tells refused in
+    let kept = value-kept _ _ told (omega (arith, set-refusals _ _ refused .1)) in
+    (its-number _ _ told, (its-place _ _ told, (kept 0 _, kept 1 _)))
+
+pub hv-judge-set-spec : {M : Type 1} → statement M
+hv-judge-set-spec =
+    tie.close
+    (tie.spec set-from-requires judge-set-requires enum-known-f enum-known-r returns returns-2)

@@ -1,0 +1,108 @@
+// The C face: the names of include/hervantyu.h, over the proved crates. Each function returns the refusal's number, 0 where there is none, and stores its
+// place; on a refusal nothing else that was lent changes.
+use rules::CheckAnswer;
+use rules::MakeAnswer;
+use rules::SetAnswer;
+use rules::Task;
+use rules::TaskSet;
+ghost use mathlib.Core.Path.{_≡_};
+ghost use Prim.Native.Nat.{_<_};
+ghost use Rattle.rules.specs.Refusals.{set-tells, check-tells, make-tells};
+ghost use Rattle.rules.specs.Tasks.{judge-set};
+ghost use Rattle.rules.specs.Operations.{check-timetable, derive, derive-output};
+ghost use Rattle.hervantyu.specs.Lent.{task-from, set-from, value-or};
+
+// The task in the i-th four of 64 numbers: O, C, T, D.
+fn task_from(numbers: &[u32; 64], i: usize) -> Task
+    requires { ⌜ i < 16 ⌝ }
+    ensures { λ r. ⌜ r ≡ task-from (now (numbers .entry)) i ⌝ }
+{
+    Task {
+        offset: numbers[4 * i],
+        time: numbers[4 * i + 1],
+        period: numbers[4 * i + 2],
+        deadline: numbers[4 * i + 3],
+    }
+}
+
+// The set that 64 numbers are.
+fn set_from(n: u32, numbers: &[u32; 64]) -> TaskSet
+    ensures { λ r. ⌜ r ≡ set-from n (now (numbers .entry)) ⌝ }
+{
+    let mut tasks = [Task {
+        offset: 0,
+        time: 0,
+        period: 0,
+        deadline: 0,
+    }; 16];
+    let mut i: usize = 0;
+    while i < 16 {
+        tasks[i] = task_from(numbers, i);
+        i += 1;
+    }
+    TaskSet { n, tasks }
+}
+
+#[no_mangle]
+pub extern "C" fn hv_judge_set(
+    n: u32,
+    tasks: &[u32; 64],
+    place: &mut u64,
+    hyperperiod: &mut u32,
+    jobs: &mut u32,
+) -> u32
+    ensures number { λ r. ⌜ r ≡ set-tells (judge-set (set-from n (now (tasks .entry)))) .number ⌝ }
+    ensures place { λ _. ⌜ now (place .exit) ≡ set-tells (judge-set (set-from n (now (tasks .entry)))) .place ⌝ }
+    ensures hyperperiod { λ _. ⌜ now (hyperperiod .exit) ≡ value-or (set-tells (judge-set (set-from n (now (tasks .entry))))) 0 (now (hyperperiod .entry)) ⌝ }
+    ensures jobs { λ _. ⌜ now (jobs .exit) ≡ value-or (set-tells (judge-set (set-from n (now (tasks .entry))))) 1 (now (jobs .entry)) ⌝ }
+{
+    match sets::judge_set(set_from(n, tasks)) {
+        SetAnswer::Good(f) => {
+            *place = 0;
+            *hyperperiod = f.hyperperiod;
+            *jobs = f.jobs;
+            0
+        }
+        SetAnswer::Refused(r) => {
+            *place = r.place as u64;
+            r.number
+        }
+    }
+}
+
+#[no_mangle]
+pub extern "C" fn hv_check_timetable(image: &[u8], place: &mut u64) -> u32
+    ensures number { λ r. ⌜ r ≡ check-tells (check-timetable (now (image .entry))) .number ⌝ }
+    ensures place { λ _. ⌜ now (place .exit) ≡ check-tells (check-timetable (now (image .entry))) .place ⌝ }
+{
+    match timetables::check(image) {
+        CheckAnswer::Accepted => {
+            *place = 0;
+            0
+        }
+        CheckAnswer::Refused(r) => {
+            *place = r.place as u64;
+            r.number
+        }
+    }
+}
+
+#[no_mangle]
+pub extern "C" fn hv_derive(image: &[u8], out: &mut [u8], place: &mut u64, length: &mut u64) -> u32
+    ensures number { λ r. ⌜ r ≡ make-tells (derive (now (image .entry)) (now (out .entry))) .number ⌝ }
+    ensures place { λ _. ⌜ now (place .exit) ≡ make-tells (derive (now (image .entry)) (now (out .entry))) .place ⌝ }
+    ensures length { λ _. ⌜ now (length .exit) ≡ value-or (make-tells (derive (now (image .entry)) (now (out .entry)))) 0 (now (length .entry)) ⌝ }
+    ensures output { λ _. ⌜ now (out .exit) ≡ derive-output (now (image .entry)) (now (out .entry)) ⌝ }
+{
+    match timetables::derive(image, out) {
+        MakeAnswer::Made(n) => {
+            *place = 0;
+            *length = n as u64;
+            0
+        }
+        MakeAnswer::Refused(r) => {
+            *place = r.place as u64;
+            r.number
+        }
+    }
+}

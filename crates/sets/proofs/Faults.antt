@@ -1,0 +1,64 @@
+-- The first fault of a set's tasks, found in one scan, and what a refusal with number 0 stands for. Assumes nothing.
+use mathlib.Core.Path.{_≡_, refl, sym, _∙_}
+use mathlib.Core.Bool.{Bool, true, false, not}
+use mathlib.Core.List.{List}
+use mathlib.Core.Option.{Option, none, some}
+use Prim.Native.Nat.{ℕ, suc, _+_, _≤_, _<_}
+use native.Mathlib.Omega.{arith}
+use native.Mathlib.Numerals.{add-one}
+use borrow.Author.Tests.{le-leb, lt-leb, not-true, not-false}
+use lib.ListN.{length, take, drop}
+use Rattle.rules.specs.declared.Task.{Task}
+use Rattle.rules.specs.declared.Refusal.{Refusal}
+use Rattle.rules.specs.Refusals.{refusal}
+use Rattle.rules.specs.Tasks.{keeps-its-rule, tasks-fault}
+use Rattle.rules.proofs.Cases.{by-nat}
+use Rattle.sets.specs.Sets.{FirstFault}
+use Rattle.sets.proofs.Slots.{slot, none-left, one-off}
+
+-- the first fault of the first n tasks is that of those from place i on, where before is the period of the one before
+pub record FaultsFrom (slots : List Task) (n i before : ℕ) : Type 0 where
+  pub place : i ≤ n
+  pub room : n ≤ length slots
+  pub same : tasks-fault 1 0 (take n slots) ≡ tasks-fault (suc i) before (drop i (take n slots))
+
+-- so at the first task
+pub faults-start : (slots : List Task) (n : ℕ) → n ≤ length slots → FaultsFrom slots n 0 0
+faults-start slots n room = record { place = omega arith; room = room; same = refl }
+
+module _ {slots : List Task} {n i before : ℕ} (f : FaultsFrom slots n i before) where
+  -- there is none where no task is left
+  pub faults-end : n ≤ i → FirstFault (tasks-fault 1 0 (take n slots)) (refusal 0 0)
+  unfolding FirstFault
+  faults-end l = sym (f .same ∙ rw (none-left slots n i l))
+
+  module _ (l : i < n) (kept : Bool) (is : kept ≡ keeps-its-rule (slot slots i)) where
+    -- a task that breaks its own rule
+    pub own-fault : not kept ≡ true → FirstFault (tasks-fault 1 0 (take n slots)) (refusal 6 (i + 1))
+    unfolding FirstFault
+    own-fault t = sym (f .same ∙ rw (one-off slots n i l (f .room), ← is, not-true kept t, add-one))
+
+    -- a task whose period is below the one before
+    pub period-fault : not kept ≡ false → slot slots i .period < before → FirstFault (tasks-fault 1 0 (take n slots)) (refusal 7 (i + 1))
+    unfolding FirstFault
+    period-fault t b =
+        sym (f .same ∙ rw (one-off slots n i l (f .room), ← is, not-false kept t, lt-leb before (slot slots i .period) b, add-one))
+
+    -- a task without a fault is passed
+    pub faults-on : not kept ≡ false → before ≤ slot slots i .period → FaultsFrom slots n (i + 1) (slot slots i .period)
+    faults-on t b = record {
+      place = omega arith;
+      room = f .room;
+      same = f .same ∙ rw (one-off slots n i l (f .room), ← is, not-false kept t, le-leb before (slot slots i .period) b, add-one);
+    }
+
+module _ (o : Option Refusal) (r : Refusal) (f : FirstFault o r) where
+  -- number 0 stands for no fault
+  pub told-none : r .number ≡ 0 → o ≡ none
+  unfolding FirstFault
+  told-none z = sym f ∙ rw z
+
+  -- any other number is the fault's
+  pub told-fault : (r .number ≡ 0 → ⊥) → o ≡ some r
+  unfolding FirstFault
+  told-fault z = by-nat (r .number) (λ e. absurd (z e)) (λ m e. sym f ∙ rw e)

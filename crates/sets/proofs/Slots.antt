@@ -1,0 +1,37 @@
+-- The slots of a set: the first n of them from a place on, and one slot more or less. Assumes nothing.
+use mathlib.Core.Path.{_≡_, sym, _∙_, ap}
+use mathlib.Core.List.{List, [], _∷_, map}
+use Prim.Native.Nat.{ℕ, suc, _+_, _-_, _≤_, _<_}
+use native.Mathlib.Omega.{arith}
+use native.Mathlib.Numerals.{add-one}
+use lib.ListN.{length, take, drop, getD, length-take, length-map, drop-of-length-le}
+use lib.Seq.{slice-cons}
+use Rattle.rules.specs.declared.Task.{Task}
+use Rattle.rules.specs.declared.TaskSet.{TaskSet}
+
+-- there are as many slots as there are fields of slots
+pub slots-counted : {B : Type 0} (fields : Task → B) (slots : List Task) (n : ℕ) → length (map fields slots) ≡ n → length slots ≡ n
+slots-counted fields slots n e = sym (length-map slots fields) ∙ e
+
+-- the first n tasks of a set
+abbrev pub first-tasks : TaskSet → List Task
+first-tasks s = take (s .n) (s .tasks)
+
+-- the task in slot i
+abbrev pub slot : List Task → ℕ → Task
+slot slots i = getD slots i (record { offset = 0; time = 0; period = 0; deadline = 0 })
+
+module _ (slots : List Task) (n i : ℕ) where
+  -- nothing is left at the end
+  pub none-left : n ≤ i → drop i (take n slots) ≡ []
+  none-left l = drop-of-length-le (take n slots) {i = i} (simp length-take (omega arith))
+
+  -- what is left starts with the task in the slot at the place
+  pub one-off : i < n → n ≤ length slots → drop i (take n slots) ≡ slot slots i ∷ drop (i + 1) (take n slots)
+  one-off l room = rw add-one (slice-cons i n slots (slot [] 0) l room)
+
+  -- the task in the slot before the place comes in front
+  pub one-more : 0 < i → i ≤ n → n ≤ length slots → drop (i - 1) (take n slots) ≡ slot slots (i - 1) ∷ drop i (take n slots)
+  one-more p l room =
+      let e : suc (i - 1) ≡ i = omega arith in
+      slice-cons (i - 1) n slots (slot [] 0) (omega arith) room ∙ ap (λ (k : ℕ). slot slots (i - 1) ∷ drop k (take n slots)) e

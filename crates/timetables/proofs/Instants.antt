@@ -1,0 +1,123 @@
+-- What the array of next releases says of an entry that breaks no rule: the forced idle before it, and whether it is an inversion. Assumes nothing.
+use mathlib.Core.Path.{_≡_, sym, _∙_, ap}
+use mathlib.Core.Bool.{true, false}
+use mathlib.Core.List.{List, [], _∷_}
+use Prim.Native.Nat.{ℕ, zero, suc, _+_, _-_, min, max, _≤_, _<_}
+use native.Mathlib.Omega.{arith}
+use native.Mathlib.Numerals.{add-one}
+use lib.Dec.{ltb, leb}
+use lib.ListN.{length, getD, take, length-take}
+use lib.Seq.{getD-take}
+use borrow.Author.Tests.{leb-true, leb-false, le-leb, lt-leb}
+use Rattle.fields.specs.Body.{head₀, tail₀}
+use Rattle.rules.specs.declared.Task.{Task}
+use Rattle.rules.specs.declared.Entry.{Entry}
+use Rattle.rules.specs.Tasks.{task, jobs, no-task, KeepsItsRule}
+use Rattle.rules.specs.Setting.{instant}
+use Rattle.rules.specs.Priority.{slot, start-job, least-release, is-left, waiting, by-priority, setting-of}
+use Rattle.rules.specs.Irregularities.{runs, forced-idles}
+use Rattle.rules.proofs.Cases.{by-bool, differ}
+use Rattle.rules.proofs.PriorityLaws.{StartKeepsRules, least-below}
+use Rattle.rules.proofs.ForcedIdle.{released-in-cycle, no-gap, whole-gap}
+use Rattle.rules.proofs.Inversions.{lower-waits, not-run, next-waits}
+use Rattle.timetables.specs.Walks.{never, next-releases}
+use Rattle.timetables.specs.Instants.{least-of, some-by}
+use Rattle.timetables.proofs.Releases.{releases-length, release-in-slot}
+
+-- the least of next releases, or the end of the cycle where it comes first
+least-next : (h : ℕ) (ts : List Task) (x : List ℕ) → h ≤ never → min h (least-of (next-releases h ts x)) ≡ least-release h ts x
+least-next h [] x le = omega arith
+least-next h (t ∷ ts) x le =
+    let later = least-next h ts (tail₀ x) le in
+    by-bool (ltb (head₀ x) (jobs h t)) (λ b. rw (b, least-release) (omega arith)) (λ b. rw (b, least-release) (omega arith))
+
+-- the least of one instant more
+pub least-more : (rs : List ℕ) (i : ℕ) → i < length rs → least-of (take (i + 1) rs) ≡ min (least-of (take i rs)) (getD rs i 0)
+least-more rs i l = ap (λ (k : ℕ). least-of (take k rs)) (add-one i) ∙ least-suc rs i l
+  where
+    least-suc : (us : List ℕ) (k : ℕ) → k < length us → least-of (take (suc k) us) ≡ min (least-of (take k us)) (getD us k 0)
+    least-suc [] k h = absurd (omega arith)
+    least-suc (u ∷ us) zero h = omega arith
+    least-suc (u ∷ us) (suc k) h = omega (arith, least-suc us k (omega arith))
+
+-- where none of the first has come, nor the next, none of one more has
+pub none-more : (s : ℕ) (rs : List ℕ) (i : ℕ) → i < length rs → some-by s (take i rs) ≡ false → s < getD rs i 0 → some-by s (take (i + 1) rs) ≡ false
+none-more s rs i l none past = ap (λ (k : ℕ). some-by s (take k rs)) (add-one i) ∙ none-suc rs i l none past
+  where
+    none-suc : (us : List ℕ) (k : ℕ) → k < length us → some-by s (take k us) ≡ false → s < getD us k 0 → some-by s (take (suc k) us) ≡ false
+    none-suc [] k h e g = absurd (omega arith)
+    none-suc (u ∷ us) zero h e g = rw (lt-leb u s g)
+    none-suc (u ∷ us) (suc k) h e g = by-bool (leb u s) (λ b. differ (rw b at e)) (λ b. rw b (none-suc us k (omega arith) (rw b at e) g))
+
+-- an instant that has come is one of those asked for
+some-found : (s : ℕ) (rs : List ℕ) → some-by s rs ≡ true → (k : ℕ) × (k < length rs) × (getD rs k 0 ≤ s)
+some-found s [] e = differ (sym e)
+some-found s (r ∷ rs) e =
+    by-bool (leb r s) (λ b. (0, omega arith, leb-true r s b))
+    (λ b. let f = some-found s rs (rw b at e) in (suc (f .0), omega (arith, f .1), f .2))
+
+-- where none has come, none of them has
+none-found : (s : ℕ) (rs : List ℕ) → some-by s rs ≡ false → (k : ℕ) → k < length rs → s < getD rs k 0
+none-found s [] e k l = absurd (omega arith)
+none-found s (r ∷ rs) e zero l = by-bool (leb r s) (λ b. differ (rw b at e)) (λ b. leb-false r s b)
+none-found s (r ∷ rs) e (suc k) l = by-bool (leb r s) (λ b. differ (rw b at e)) (λ b. none-found s rs (rw b at e) k (omega arith))
+
+-- one of the first that has come
+pub some-in : (s : ℕ) (rs : List ℕ) (i k : ℕ) → k < i → k < length rs → getD rs k 0 ≤ s → some-by s (take i rs) ≡ true
+some-in s rs i k lt l come =
+    by-bool (some-by s (take i rs)) (λ b. b)
+    (λ b. absurd (omega (arith, none-found s (take i rs) b k (omega (arith, length-take i rs)), getD-take i rs k 0 lt)))
+
+module _ (ts : List Task) (h : ℕ) (x : List ℕ) where
+  -- a task whose next release has come is waiting, and no other
+  waits-by : (s i : ℕ) → s < never → i < length ts → waiting ts h x s i ≡ leb (getD (next-releases h ts x) i 0) s
+  waits-by s i lt a-task =
+      rw (release-in-slot h ts x i no-task a-task)
+      (by-bool (is-left ts h x i) (λ b. rw b) (λ b. rw b (sym (lt-leb never s lt))))
+
+  -- the instant of decision, where a job is left
+  pub instant-is : (f : ℕ) → h ≤ never → least-release h ts x < h → max f (least-of (next-releases h ts x)) ≡ instant (setting-of ts h) x f
+  instant-is f le lt = omega (arith, least-next h ts x le)
+
+  module _ (s i : ℕ) (lt : s < never) (a-task : i < length ts) where
+    -- where a lower task's release has come, the baseline does not run the task
+    pub lower-inverts : some-by s (take i (next-releases h ts x)) ≡ true → runs (by-priority ts h x s) i ≡ false
+    lower-inverts e =
+        let f = some-found s (take i (next-releases h ts x)) e in
+        let lo : f .0 < i = omega (arith, f .1, length-take i (next-releases h ts x)) in
+        let by = rw (getD-take i (next-releases h ts x) (f .0) 0 lo) at (f .2) in
+        not-run ts h x s i a-task (f .0) lo (waits-by s (f .0) lt (omega arith) ∙ le-leb _ s by)
+
+    -- where none has, it runs the task if that waits
+    pub none-lower-runs : waiting ts h x s i ≡ true → some-by s (take i (next-releases h ts x)) ≡ false → runs (by-priority ts h x s) i ≡ true
+    none-lower-runs w e =
+        by-bool (runs (by-priority ts h x s) i) (λ b. b)
+        (λ b.
+        let l = lower-waits ts h x s i a-task w b in
+        let by = leb-true _ s (sym (waits-by s (l .0) lt (omega (arith, l .1))) ∙ l .2) in
+        let past = none-found s (take i (next-releases h ts x)) e (l .0) (omega (arith, l .1, length-take i (next-releases h ts x), releases-length h ts x)) in
+        absurd (omega (arith, l .1, getD-take i (next-releases h ts x) (l .0) 0 (l .1))))
+
+module _ (ts : List Task) (h : ℕ) {x : List ℕ} {f : ℕ} (e : Entry) (σ : List Entry) (keeps : StartKeepsRules ts h x f (e .task) (e .start)) where
+  -- a job is left before an entry
+  pub some-left : KeepsItsRule (task ts (e .task)) → least-release h ts x < h
+  some-left rule = omega (
+    arith,
+    least-below h ts x (e .task) (keeps .a-task) (keeps .left),
+    released-in-cycle h (task ts (e .task)) (slot x (e .task)) rule (keeps .left),
+  )
+
+  -- its task is waiting at its start
+  pub is-waiting : waiting ts h x (e .start) (e .task) ≡ true
+  is-waiting = next-waits ts h x (e .start) (e .task) (keeps .left) (keeps .released)
+
+  -- a start after the instant of decision has a forced idle before it
+  pub idle-before : (t : ℕ) → t ≡ instant (setting-of ts h) x f → t < e .start →
+      forced-idles (setting-of ts h) x f (e ∷ σ)
+      ≡ record { start = t; length = e .start - t } ∷ forced-idles (setting-of ts h) (start-job x (e .task)) (e .start + task ts (e .task) .time) σ
+  idle-before t is lt = rw (is, whole-gap ts h (e .start) x (instant (setting-of ts h) x f) (e .start) (omega arith) (omega arith))
+
+  -- one at the instant has none
+  pub no-idle-before : (t : ℕ) → t ≡ instant (setting-of ts h) x f → e .start ≤ t →
+      forced-idles (setting-of ts h) x f (e ∷ σ) ≡ forced-idles (setting-of ts h) (start-job x (e .task)) (e .start + task ts (e .task) .time) σ
+  no-idle-before t is le = rw (no-gap ts h (e .start) x (instant (setting-of ts h) x f) (e .start) (omega arith))

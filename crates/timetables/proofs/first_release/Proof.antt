@@ -1,0 +1,13 @@
+-- `timetables::first_release` meets its contract. Assumes nothing.
+use borrow.Author.Tests.{lt-ltb, le-ltb}
+use Rattle.timetables.proofs.first_release.Statement.{statement}
+use Rattle.timetables.proofs.first_release.Tie as tie
+
+returns : tie.Need-returns
+returns c = rw (lt-ltb 0 _ (c .if1 .taken))
+
+returns-2 : tie.Need-returns-2
+returns-2 c = rw (le-ltb 0 _ (c .if1 .left))
+
+pub first-release-spec : {M : Type 1} → statement M
+first-release-spec = tie.close (tie.spec returns returns-2)

@@ -1,0 +1,203 @@
+//! The archive's C names, and a safe call for each: every lent buffer stands between guards, and a
+//! call that changes more than it may is a panic with the case.
+
+extern "C" {
+    pub fn hv_judge_set(
+        n: u32,
+        tasks: *const u32,
+        place: *mut u64,
+        hyperperiod: *mut u32,
+        jobs: *mut u32,
+    ) -> u32;
+    pub fn hv_check_timetable(image: *const u8, len: usize, place: *mut u64) -> u32;
+    pub fn hv_derive(
+        image: *const u8,
+        len: usize,
+        out: *mut u8,
+        room: usize,
+        place: *mut u64,
+        length: *mut u64,
+    ) -> u32;
+}
+
+/// The tasks that a set in memory has room for.
+pub const SLOTS: usize = 16;
+
+#[derive(Clone, Copy, PartialEq, Eq, Debug)]
+pub struct Refusal {
+    pub number: u32,
+    pub place: u64,
+}
+
+// ---- The calls ----
+
+/// The hyperperiod and the jobs of a good set; a slot below n that is not given is 0.
+pub fn judge_set(case: &str, n: u32, tasks: &[[u32; 4]]) -> Result<(u32, u32), Refusal> {
+    twice(case, |filling| {
+        let mut tasks = Lent::new(&slots(n, tasks, filling), filling);
+        let mut place = Lent::<u64>::filled(1, filling);
+        let mut hyperperiod = Lent::<u32>::filled(1, filling);
+        let mut jobs = Lent::<u32>::filled(1, filling);
+        // SAFETY: every pointer is to as many numbers as the header asks for, and none overlap.
+        let number = unsafe {
+            let (h, j) = (hyperperiod.pointer(), jobs.pointer());
+            hv_judge_set(n, tasks.pointer(), place.pointer(), h, j)
+        };
+        let stored = usize::from(number == 0);
+        tasks.demand_kept(0, case, "the tasks");
+        hyperperiod.demand_kept(stored, case, "the hyperperiod");
+        jobs.demand_kept(stored, case, "the jobs");
+        answer(number, &place, case)?;
+        Ok((hyperperiod.content()[0], jobs.content()[0]))
+    })
+}
+
+/// Checks a timetable image.
+pub fn check_timetable(case: &str, image: &[u8]) -> Result<(), Refusal> {
+    twice(case, |filling| {
+        let mut lent = Lent::new(image, filling);
+        let mut place = Lent::<u64>::filled(1, filling);
+        // SAFETY: the image has as many bytes as is said, and the two regions do not overlap.
+        let number = unsafe { hv_check_timetable(lent.pointer(), image.len(), place.pointer()) };
+        lent.demand_kept(0, case, "the image");
+        answer(number, &place, case)
+    })
+}
+
+/// The table image of a timetable image, derived into an output of `room` bytes.
+pub fn derive(case: &str, room: usize, image: &[u8]) -> Result<Vec<u8>, Refusal> {
+    twice(case, |filling| {
+        let mut lent = Lent::new(image, filling);
+        let mut out = Lent::<u8>::filled(room, filling);
+        let mut place = Lent::<u64>::filled(1, filling);
+        let mut length = Lent::<u64>::filled(1, filling);
+        // SAFETY: image and output have as many bytes as is said, and no two regions overlap.
+        let number = unsafe {
+            let (p, l) = (place.pointer(), length.pointer());
+            hv_derive(lent.pointer(), image.len(), out.pointer(), room, p, l)
+        };
+        lent.demand_kept(0, case, "the image");
+        length.demand_kept(usize::from(number == 0), case, "the length");
+        let written = if number == 0 { length.content()[0] } else { 0 };
+        demand(written <= room as u64, case, "the length is above the room");
+        out.demand_kept(written as usize, case, "the output");
+        answer(number, &place, case)?;
+        Ok(out.content()[..written as usize].to_vec())
+    })
+}
+
+/// The 64 numbers of a set in memory, filling behind the given tasks and the first n.
+fn slots(n: u32, tasks: &[[u32; 4]], filling: u8) -> Vec<u32> {
+    let mut numbers = tasks.concat();
+    numbers.resize(numbers.len().max(4 * SLOTS.min(n as usize)), 0);
+    numbers.resize(4 * SLOTS, u32::of(filling));
+    numbers
+}
+
+/// What the returned number and the stored place say: without a refusal the place is 0.
+fn answer(number: u32, place: &Lent<u64>, case: &str) -> Result<(), Refusal> {
+    place.demand_kept(1, case, "the place");
+    let place = place.content()[0];
+    if number != 0 {
+        return Err(Refusal { number, place });
+    }
+    demand(
+        place == 0,
+        case,
+        "nothing is refused, but the place is not 0",
+    );
+    Ok(())
+}
+
+/// The answer of a call that is made twice, over opposite fillings, and has to be the same.
+fn twice<A: PartialEq>(case: &str, call: impl Fn(u8) -> A) -> A {
+    let [first, second] = [0x5A, 0xA5].map(call);
+    demand(
+        first == second,
+        case,
+        "the answer depends on what the buffers held",
+    );
+    first
+}
+
+fn demand(held: bool, case: &str, fault: &str) {
+    assert!(held, "{fault}: {case}");
+}
+
+// ---- Guards ----
+
+const GUARD: usize = 16;
+
+/// A byte or a number, all of whose bytes can be the filling.
+trait Unit: Copy + PartialEq {
+    fn of(filling: u8) -> Self;
+}
+
+impl Unit for u8 {
+    fn of(filling: u8) -> u8 {
+        filling
+    }
+}
+
+impl Unit for u32 {
+    fn of(filling: u8) -> u32 {
+        u32::from_ne_bytes([filling; 4])
+    }
+}
+
+impl Unit for u64 {
+    fn of(filling: u8) -> u64 {
+        u64::from_ne_bytes([filling; 8])
+    }
+}
+
+/// Bytes or numbers that are lent to a call, between guards, and how all was before the call.
+struct Lent<T> {
+    now: Vec<T>,
+    before: Vec<T>,
+    front: usize,
+    length: usize,
+}
+
+impl<T: Unit> Lent<T> {
+    /// Lends the content; one of the two fillings puts bytes at an odd address.
+    fn new(content: &[T], filling: u8) -> Lent<T> {
+        let front = GUARD + usize::from(filling & 1);
+        let mut now = vec![T::of(filling); front];
+        now.extend_from_slice(content);
+        now.resize(now.len() + GUARD, T::of(filling));
+        let before = now.clone();
+        let length = content.len();
+        Lent {
+            now,
+            before,
+            front,
+            length,
+        }
+    }
+
+    /// Lends that many units of filling.
+    fn filled(length: usize, filling: u8) -> Lent<T> {
+        Lent::new(&vec![T::of(filling); length], filling)
+    }
+
+    fn pointer(&mut self) -> *mut T {
+        self.now.as_mut_ptr().wrapping_add(self.front)
+    }
+
+    fn content(&self) -> &[T] {
+        &self.now[self.front..][..self.length]
+    }
+
+    /// Demands that all is as it was, but for so many units at the front of the content.
+    fn demand_kept(&self, written: usize, case: &str, name: &str) {
+        let behind = self.front + written;
+        let front = self.now[..self.front] == self.before[..self.front];
+        let rest = self.now[behind..] == self.before[behind..];
+        assert!(front, "written in front of {name}: {case}");
+        assert!(
+            rest,
+            "{name} changed where it is to be kept, or behind it: {case}"
+        );
+    }
+}

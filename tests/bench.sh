@@ -1,0 +1,14 @@
+#!/bin/sh
+# Measures the archive beside an implementation written for speed. HV_ARCHIVE names another
+# archive than the repository's own.
+set -eu
+
+tests=$(cd "$(dirname "$0")" && pwd)
+archive=${HV_ARCHIVE:-$tests/../target/staticlib/libhervantyu.a}
+built=$(mktemp -d)
+trap 'rm -rf "$built"' EXIT
+
+test -f "$archive" || { echo "no archive at $archive" >&2; exit 1; }
+
+rustc --edition 2021 -O -D warnings -C link-arg="$archive" -o "$built/bench" "$tests/bench.rs"
+"$built/bench"

@@ -1,0 +1,262 @@
+/* The examples P1 to P4 and P9 to P12 of document 01, asked of the archive from C through its header alone: numbers, places and bytes, and that every call
+ * leaves the rest of what it was lent, and the guards around it, as they were. */
+#include "hervantyu.h"
+
+#include <stdio.h>
+#include <string.h>
+
+enum { GUARD = 16, MOST = 256 };
+
+static unsigned checks, failed;
+static unsigned char filling;
+
+static void check(int held, const char *example, const char *what)
+{
+    checks++;
+    if (!held) {
+        failed++;
+        printf("%s, filling %02x: %s\n", example, filling, what);
+    }
+}
+
+/* ---- Buffers between guards ---- */
+
+/* Bytes behind GUARD guards, with at least GUARD guards behind them. */
+struct bytes {
+    uint8_t now[GUARD + MOST + GUARD], before[GUARD + MOST + GUARD];
+};
+
+/* A number between two guards. */
+struct wide {
+    uint64_t guard, now, behind;
+};
+struct word {
+    uint32_t guard, now, behind;
+};
+
+static void lend(struct bytes *lent, const uint8_t *content, size_t length)
+{
+    memset(lent->now, filling, sizeof lent->now);
+    memcpy(lent->now + GUARD, content, length);
+    memcpy(lent->before, lent->now, sizeof lent->before);
+}
+
+/* Whether all is as it was but for so many bytes at the front. */
+static int kept_behind(const struct bytes *lent, size_t written)
+{
+    size_t rest = GUARD + written;
+    return memcmp(lent->now, lent->before, GUARD) == 0 && memcmp(lent->now + rest, lent->before + rest, sizeof lent->now - rest) == 0;
+}
+
+static uint64_t wide_filling(void)
+{
+    return filling * UINT64_C(0x0101010101010101);
+}
+
+static struct wide lend_wide(void)
+{
+    return (struct wide){wide_filling(), wide_filling(), wide_filling()};
+}
+
+static int wide_is(const struct wide *lent, uint64_t value)
+{
+    return lent->guard == wide_filling() && lent->now == value && lent->behind == wide_filling();
+}
+
+static struct word lend_word(void)
+{
+    uint32_t value = (uint32_t)wide_filling();
+    return (struct word){value, value, value};
+}
+
+static int word_is(const struct word *lent, uint32_t value)
+{
+    return lent->guard == (uint32_t)wide_filling() && lent->now == value && lent->behind == (uint32_t)wide_filling();
+}
+
+/* ---- The calls, each with the answer that it is to give ---- */
+
+struct image {
+    size_t length;
+    uint8_t bytes[MOST];
+};
+
+static void expect_check(const char *example, const struct image *image, uint32_t number, uint64_t place)
+{
+    struct bytes lent;
+    struct wide stored = lend_wide();
+    lend(&lent, image->bytes, image->length);
+    check(hv_check_timetable(lent.now + GUARD, image->length, &stored.now) == number, example, "checking gives another number");
+    check(wide_is(&stored, place), example, "checking stores another place");
+    check(kept_behind(&lent, 0), example, "checking changes the image");
+}
+
+/* Where a refusal is expected, no result is. */
+static void expect_derive(const char *example, const struct image *image, size_t room, uint32_t number, uint64_t place, const struct image *result)
+{
+    struct bytes lent, out;
+    struct wide stored = lend_wide(), length = lend_wide();
+    size_t written = result ? result->length : 0;
+    lend(&lent, image->bytes, image->length);
+    lend(&out, image->bytes, 0);
+    check(hv_derive(lent.now + GUARD, image->length, out.now + GUARD, room, &stored.now, &length.now) == number, example, "deriving gives another number");
+    check(wide_is(&stored, place), example, "deriving stores another place");
+    check(wide_is(&length, result ? written : wide_filling()), example, "deriving stores another length");
+    check(kept_behind(&lent, 0), example, "deriving changes the image");
+    check(kept_behind(&out, written), example, "deriving changes the output where it is to be kept");
+    if (result)
+        check(memcmp(out.now + GUARD, result->bytes, written) == 0, example, "deriving writes other bytes");
+}
+
+/* Where a refusal is expected, hyperperiod and jobs are 0. */
+static void expect_judge(const char *example, uint32_t n, const uint32_t (*tasks)[4], uint32_t number, uint32_t hyperperiod, uint32_t jobs)
+{
+    struct {
+        uint32_t guard, now[64], behind;
+    } lent, before;
+    struct wide stored = lend_wide();
+    struct word h = lend_word(), j = lend_word();
+    uint32_t kept = (uint32_t)wide_filling();
+    memset(&lent, filling, sizeof lent);
+    memcpy(lent.now, tasks, n * sizeof *tasks);
+    memcpy(&before, &lent, sizeof lent);
+    check(hv_judge_set(n, lent.now, &stored.now, &h.now, &j.now) == number, example, "judging gives another number");
+    check(wide_is(&stored, 0), example, "judging stores another place");
+    check(word_is(&h, number ? kept : hyperperiod), example, "judging stores another hyperperiod");
+    check(word_is(&j, number ? kept : jobs), example, "judging stores another number of jobs");
+    check(memcmp(&before, &lent, sizeof lent) == 0, example, "judging changes the tasks");
+}
+
+/* A timetable that is refused is refused so whatever the room. */
+static void expect_refused(const char *example, const struct image *image, uint32_t number, uint64_t place)
+{
+    expect_check(example, image, number, place);
+    expect_derive(example, image, 0, number, place, NULL);
+    expect_derive(example, image, MOST, number, place, NULL);
+}
+
+/* A good timetable gives its tables in an output of just their length or more, and 20 in a shorter one. */
+static void expect_tables(const char *example, const struct image *image, const struct image *tables)
+{
+    expect_check(example, image, 0, 0);
+    expect_derive(example, image, tables->length, 0, 0, tables);
+    expect_derive(example, image, tables->length + 1, 0, 0, tables);
+    expect_derive(example, image, MOST, 0, 0, tables);
+    expect_derive(example, image, tables->length - 1, 20, 0, NULL);
+    expect_derive(example, image, 0, 20, 0, NULL);
+}
+
+/* ---- Timetable images ---- */
+
+struct entry {
+    uint8_t task;
+    uint32_t start;
+};
+
+static void put_mark(struct image *image, const char *mark)
+{
+    image->bytes[image->length++] = (uint8_t)mark[0];
+    image->bytes[image->length++] = (uint8_t)mark[1];
+}
+
+static void put_number(struct image *image, uint32_t value, int width)
+{
+    while (width-- > 0)
+        image->bytes[image->length++] = (uint8_t)(value >> (8 * width));
+}
+
+static struct image timetable(uint32_t n, const uint32_t (*tasks)[4], uint32_t count, const struct entry *entries)
+{
+    struct image image = {0, {0}};
+    put_mark(&image, "TS");
+    put_number(&image, 1, 1);
+    put_number(&image, 1, 1);
+    put_number(&image, n, 1);
+    for (uint32_t i = 0; i < n; i++) {
+        put_mark(&image, "TK");
+        for (int field = 0; field < 4; field++)
+            put_number(&image, tasks[i][field], 4);
+    }
+    for (uint32_t i = 0; i < count; i++) {
+        put_mark(&image, "SL");
+        put_number(&image, entries[i].task, 1);
+        put_number(&image, entries[i].start, 4);
+    }
+    put_mark(&image, "EN");
+    put_number(&image, 1 + n + count, 4);
+    return image;
+}
+
+/* ---- The examples ---- */
+
+static const uint32_t by_hand[3][4] = {{0, 1, 5, 5}, {0, 2, 10, 10}, {0, 6, 20, 20}};
+
+static const struct image p1_tables = {65, {
+    0x54, 0x53, 0x01, 0x02, 0x03,
+    0x54, 0x4B, 0x00, 0x00, 0x00, 0x00, 0x00, 0x00, 0x00, 0x01, 0x00, 0x00, 0x00, 0x05, 0x00, 0x00, 0x00, 0x05,
+    0x54, 0x4B, 0x00, 0x00, 0x00, 0x00, 0x00, 0x00, 0x00, 0x02, 0x00, 0x00, 0x00, 0x0A, 0x00, 0x00, 0x00, 0x0A,
+    0x54, 0x4B, 0x00, 0x00, 0x00, 0x00, 0x00, 0x00, 0x00, 0x06, 0x00, 0x00, 0x00, 0x14, 0x00, 0x00, 0x00, 0x14,
+    0x45, 0x4E, 0x00, 0x00, 0x00, 0x04}};
+
+static const struct image p2_tables = {91, {
+    0x54, 0x53, 0x01, 0x02, 0x03,
+    0x54, 0x4B, 0x00, 0x00, 0x00, 0x00, 0x00, 0x00, 0x00, 0x01, 0x00, 0x00, 0x00, 0x05, 0x00, 0x00, 0x00, 0x05,
+    0x54, 0x4B, 0x00, 0x00, 0x00, 0x00, 0x00, 0x00, 0x00, 0x02, 0x00, 0x00, 0x00, 0x0A, 0x00, 0x00, 0x00, 0x0A,
+    0x54, 0x4B, 0x00, 0x00, 0x00, 0x00, 0x00, 0x00, 0x00, 0x06, 0x00, 0x00, 0x00, 0x14, 0x00, 0x00, 0x00, 0x14,
+    0x49, 0x44, 0x00, 0x00, 0x00, 0x0A, 0x00, 0x02,
+    0x50, 0x56, 0x01, 0x00, 0x00, 0x00, 0x00, 0x00, 0x07,
+    0x50, 0x56, 0x02, 0x00, 0x00, 0x00, 0x00, 0x00, 0x01,
+    0x45, 0x4E, 0x00, 0x00, 0x00, 0x07}};
+
+static const struct image p9_tables = {29, {
+    0x54, 0x53, 0x01, 0x02, 0x01,
+    0x54, 0x4B, 0x00, 0x00, 0x00, 0x00, 0x00, 0x00, 0x00, 0x01, 0x00, 0x00, 0x00, 0x01, 0x00, 0x00, 0x00, 0x01,
+    0x45, 0x4E, 0x00, 0x00, 0x00, 0x02}};
+
+static void sets(void)
+{
+    static const uint32_t p9[1][4] = {{0, 1, 1, 1}};
+    static const uint32_t p10_9[2][4] = {{0, 1, 3, 3}, {0, 1, 65535, 65535}};
+    static const uint32_t p10_8[2][4] = {{0, 1, 2, 2}, {0, 1, 65535, 65535}};
+    static const uint32_t p11[3][4] = {{0, 1, 16, 16}, {0, 1, 65520, 65520}, {0, 1, 65520, 65520}};
+    expect_judge("set to work by hand", 3, by_hand, 0, 20, 7);
+    expect_judge("P9", 1, p9, 0, 1, 1);
+    expect_judge("P10, 3 and 65,535", 2, p10_9, 9, 0, 0);
+    expect_judge("P10, 2 and 65,535", 2, p10_8, 8, 0, 0);
+    expect_judge("P11", 2, p11, 0, 65520, 4096);
+    expect_judge("P11 with a third task", 3, p11, 9, 0, 0);
+}
+
+static void timetables(void)
+{
+    static const uint32_t one[1][4] = {{0, 1, 1, 1}};
+    static const struct entry first[1] = {{0, 0}};
+    static const struct entry p1[7] = {{0, 0}, {1, 1}, {2, 3}, {0, 9}, {0, 10}, {1, 11}, {0, 15}};
+    struct entry p2[7] = {{0, 0}, {2, 1}, {1, 7}, {0, 9}, {0, 12}, {1, 13}, {0, 15}};
+    struct image image = timetable(3, by_hand, 7, p1);
+    struct image none = {0, {0}};
+    expect_tables("P1", &image, &p1_tables);
+    image = timetable(3, by_hand, 7, p2);
+    expect_tables("P2", &image, &p2_tables);
+    p2[3].start = 10;
+    image = timetable(3, by_hand, 7, p2);
+    expect_refused("P3", &image, 15, 7);
+    p2[3].start = 8;
+    image = timetable(3, by_hand, 7, p2);
+    expect_refused("P4", &image, 14, 7);
+    image = timetable(1, one, 1, first);
+    expect_tables("P9", &image, &p9_tables);
+    expect_refused("P12", &none, 1, 0);
+}
+
+int main(void)
+{
+    static const unsigned char fillings[2] = {0x5A, 0xA5};
+    for (int i = 0; i < 2; i++) {
+        filling = fillings[i];
+        sets();
+        timetables();
+    }
+    printf("%u checks, %u failed\n", checks, failed);
+    return failed > 0;
+}
