@@ -19,6 +19,16 @@ use Rattle.images.specs.Table.{mark-of, code-row, found-at, kind-at, all
 pub same-row : (k i : ℕ) → k ≡ i → code-row (mark-of i) ≡ code-row (mark-of k)
 same-row k i e = rw e
 
+-- the last place, and every place behind the table, has EN's
+pub last-row : (k : ℕ) → 5 ≤ k → code-row EN ≡ code-row (mark-of k)
+last-row zero h = absurd (omega arith)
+last-row (suc zero) h = absurd (omega arith)
+last-row (suc (suc zero)) h = absurd (omega arith)
+last-row (suc (suc (suc zero))) h = absurd (omega arith)
+last-row (suc (suc (suc (suc zero)))) h = absurd (omega arith)
+last-row (suc (suc (suc (suc (suc zero))))) h = refl
+last-row (suc (suc (suc (suc (suc (suc k)))))) h = refl
+
 -- what a place inside a list has is found there
 pub found-inside : {A : Type 0} (xs : List A) (k : ℕ) (d : A) → k < length xs → getElem? xs k ≡ some (getD xs k d)
 found-inside [] k d h = absurd (omega arith)

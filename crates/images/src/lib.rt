@@ -90,9 +90,8 @@ pub const ROWS: [Row; 6] = [
     },
 ];
 
-// The row of a mark.
+// The row of a mark, EN's for a place behind the table.
 pub fn row_of(k: usize) -> Row
-    requires { ⌜ k < 6 ⌝ }
     ensures { λ r. ⌜ r ≡ code-row (mark-of k) ⌝ }
 {
     match k {
@@ -107,7 +106,6 @@ pub fn row_of(k: usize) -> Row
 
 // The length of a mark's body.
 pub fn body_of(k: usize) -> usize
-    requires { ⌜ k < 6 ⌝ }
     ensures { λ r. ⌜ r ≡ book-marks.body-length (mark-of k) ⌝ }
 {
     row_of(k).body

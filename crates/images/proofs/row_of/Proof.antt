@@ -1,7 +1,7 @@
 -- `images::row_of` meets its contract: each row of the code's table is the rule book's. Assumes nothing.
 use native.Mathlib.Omega.{arith}
 use borrow.Author.Needs.{needs}
-use Rattle.images.proofs.TableLaws.{same-row}
+use Rattle.images.proofs.TableLaws.{same-row, last-row}
 use Rattle.images.proofs.row_of.Statement.{statement}
 use Rattle.images.proofs.row_of.Tie as tie
 
@@ -39,7 +39,7 @@ returns-5 : tie.Need-returns-5
 returns-5 c = same-row (c .before .before .args .k) 4 (omega arith)
 
 returns-6 : tie.Need-returns-6
-returns-6 c = same-row (c .before .before .args .k) 5 (omega arith)
+returns-6 c = last-row (c .before .before .args .k) (omega arith)
 
 pub row-of-spec : {M : Type 1} → statement M
 row-of-spec =
