@@ -1,12 +1,14 @@
 -- What the C face is lent and what it leaves there, in the rule book's terms. Assumes nothing.
+use mathlib.Core.Path.{_≡_}
 use mathlib.Core.List.{List, [], _∷_}
 use Prim.Native.Nat.{ℕ, zero, suc, _+_, _*_}
 use lib.ListN.{getD}
 use Rattle.rules.specs.declared.Task.{Task}
 use Rattle.rules.specs.declared.TaskSet.{TaskSet}
-use Rattle.rules.specs.Refusals.{Told}
+use Rattle.rules.specs.Refusals.{Told, set-tells, check-tells, make-tells}
 use Rattle.rules.specs.Priority.{slot}
-use Rattle.rules.specs.Tasks.{limits}
+use Rattle.rules.specs.Tasks.{limits, judge-set}
+use Rattle.rules.specs.Operations.{check-timetable, derive, derive-output}
 
 -- the task in the i-th four of the numbers: O, C, T, D
 abbrev pub task-from : List ℕ → ℕ → Task
@@ -29,3 +31,22 @@ value-if (suc number) t i old = old
 
 abbrev pub value-or : Told → ℕ → ℕ → ℕ
 value-or t i old = value-if (t .number) t i old
+
+-- what `hv_judge_set` returns and leaves in the lent numbers, for n tasks in 64 numbers
+pub record SetJudged (n : ℕ) (numbers : List ℕ) (old-hyperperiod old-jobs number place hyperperiod jobs : ℕ) : Type 0 where
+  pub its-number : number ≡ set-tells (judge-set (set-from n numbers)) .number
+  pub its-place : place ≡ set-tells (judge-set (set-from n numbers)) .place
+  pub its-hyperperiod : hyperperiod ≡ value-or (set-tells (judge-set (set-from n numbers))) 0 old-hyperperiod
+  pub its-jobs : jobs ≡ value-or (set-tells (judge-set (set-from n numbers))) 1 old-jobs
+
+-- what `hv_check_timetable` returns and leaves
+pub record TimetableChecked (image : List ℕ) (number place : ℕ) : Type 0 where
+  pub its-number : number ≡ check-tells (check-timetable image) .number
+  pub its-place : place ≡ check-tells (check-timetable image) .place
+
+-- what `hv_derive` returns and leaves, in the lent numbers and in every byte of the output
+pub record Derived (image old-output : List ℕ) (old-length number place length : ℕ) (output : List ℕ) : Type 0 where
+  pub its-number : number ≡ make-tells (derive image old-output) .number
+  pub its-place : place ≡ make-tells (derive image old-output) .place
+  pub its-length : length ≡ value-or (make-tells (derive image old-output)) 0 old-length
+  pub its-output : output ≡ derive-output image old-output

@@ -7,10 +7,7 @@ use rules::Task;
 use rules::TaskSet;
 ghost use mathlib.Core.Path.{_≡_};
 ghost use Prim.Native.Nat.{_<_};
-ghost use Rattle.rules.specs.Refusals.{set-tells, check-tells, make-tells};
-ghost use Rattle.rules.specs.Tasks.{judge-set};
-ghost use Rattle.rules.specs.Operations.{check-timetable, derive, derive-output};
-ghost use Rattle.hervantyu.specs.Lent.{task-from, set-from, value-or};
+ghost use Rattle.hervantyu.specs.Lent.{task-from, set-from, SetJudged, TimetableChecked, Derived};
 
 // The task in the i-th four of 64 numbers: O, C, T, D.
 fn task_from(numbers: &[u32; 64], i: usize) -> Task
@@ -51,10 +48,7 @@ pub extern "C" fn hv_judge_set(
     hyperperiod: &mut u32,
     jobs: &mut u32,
 ) -> u32
-    ensures number { λ r. ⌜ r ≡ set-tells (judge-set (set-from n (now (tasks .entry)))) .number ⌝ }
-    ensures place { λ _. ⌜ now (place .exit) ≡ set-tells (judge-set (set-from n (now (tasks .entry)))) .place ⌝ }
-    ensures hyperperiod { λ _. ⌜ now (hyperperiod .exit) ≡ value-or (set-tells (judge-set (set-from n (now (tasks .entry))))) 0 (now (hyperperiod .entry)) ⌝ }
-    ensures jobs { λ _. ⌜ now (jobs .exit) ≡ value-or (set-tells (judge-set (set-from n (now (tasks .entry))))) 1 (now (jobs .entry)) ⌝ }
+    ensures { λ r. ⌜ SetJudged n (now (tasks .entry)) (now (hyperperiod .entry)) (now (jobs .entry)) r (now (place .exit)) (now (hyperperiod .exit)) (now (jobs .exit)) ⌝ }
 {
     match sets::judge_set(set_from(n, tasks)) {
         SetAnswer::Good(f) => {
@@ -72,8 +66,7 @@ pub extern "C" fn hv_judge_set(
 
 #[no_mangle]
 pub extern "C" fn hv_check_timetable(image: &[u8], place: &mut u64) -> u32
-    ensures number { λ r. ⌜ r ≡ check-tells (check-timetable (now (image .entry))) .number ⌝ }
-    ensures place { λ _. ⌜ now (place .exit) ≡ check-tells (check-timetable (now (image .entry))) .place ⌝ }
+    ensures { λ r. ⌜ TimetableChecked (now (image .entry)) r (now (place .exit)) ⌝ }
 {
     match timetables::check(image) {
         CheckAnswer::Accepted => {
@@ -89,10 +82,7 @@ pub extern "C" fn hv_check_timetable(image: &[u8], place: &mut u64) -> u32
 
 #[no_mangle]
 pub extern "C" fn hv_derive(image: &[u8], out: &mut [u8], place: &mut u64, length: &mut u64) -> u32
-    ensures number { λ r. ⌜ r ≡ make-tells (derive (now (image .entry)) (now (out .entry))) .number ⌝ }
-    ensures place { λ _. ⌜ now (place .exit) ≡ make-tells (derive (now (image .entry)) (now (out .entry))) .place ⌝ }
-    ensures length { λ _. ⌜ now (length .exit) ≡ value-or (make-tells (derive (now (image .entry)) (now (out .entry)))) 0 (now (length .entry)) ⌝ }
-    ensures output { λ _. ⌜ now (out .exit) ≡ derive-output (now (image .entry)) (now (out .entry)) ⌝ }
+    ensures { λ r. ⌜ Derived (now (image .entry)) (now (out .entry)) (now (length .entry)) r (now (place .exit)) (now (length .exit)) (now (out .exit)) ⌝ }
 {
     match timetables::derive(image, out) {
         MakeAnswer::Made(n) => {

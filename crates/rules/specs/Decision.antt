@@ -32,15 +32,17 @@ falls-at (some d) release t = eqb (release + d) t
 abbrev pub idle-at : Idle → ℕ → Option ℕ
 idle-at r t = elim (eqb (r .start) t) [ true ↦ some (r .length) | false ↦ none ]
 
--- that of the first unused idle record, and those behind it
+-- that of the first unused idle record
 abbrev pub first-idle : List Idle → ℕ → Option ℕ
 first-idle [] t = none
 first-idle (r ∷ idles) t = idle-at r t
 
+-- those behind the first
 abbrev pub later-idles : List Idle → List Idle
 later-idles [] = []
 later-idles (r ∷ idles) = idles
 
+-- what the baseline does, as a decision
 abbrev pub as-baseline : Act → Choice
 as-baseline (run i) = start-task i
 as-baseline (wait r) = wait-till r
@@ -65,6 +67,7 @@ module _ (G : Setting) where
   decide x t (some length) delay = idle-for length
   decide x t none delay = start-or-baseline x t (lowest (G .tasks) (recorded delay x t))
 
+  -- the delay that a table has for each task's next job
   abbrev pub delays : List Inversion → G .Started → ℕ → Option ℕ
   delays p x i = delay-of p i (G .next-job x i)
 

@@ -75,6 +75,7 @@ abbrev pub runs : Act → ℕ → Bool
 runs (run j) i = eqb j i
 runs (wait r) i = false
 
+-- a record is put in only where the baseline would not have run the job
 abbrev pub insert-unless : Bool → Inversion → List Inversion → List Inversion
 insert-unless true r rest = rest
 insert-unless false r rest = insert r rest
@@ -93,11 +94,13 @@ module _ (G : Setting) where
         | false ↦ []
       ]
 
+  -- the forced idles, entry by entry
   abbrev pub forced-idles : G .Started → ℕ → List Entry → List Idle
   forced-idles x f [] = []
   forced-idles x f (e ∷ τ) =
       gap (e .start) x (instant G x f) (e .start) ++ forced-idles (G .start-job x (e .task)) (G .free-after (e .task) (e .start)) τ
 
+  -- the record for a job that starts: delay = S − its release
   abbrev pub inversion-of : G .Started → Entry → Inversion
   inversion-of x e = record { task = e .task; job = G .next-job x (e .task); delay = e .start - G .release (e .task) (G .next-job x (e .task)) }
 

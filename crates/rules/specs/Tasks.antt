@@ -22,10 +22,11 @@ pub record Limits : Type 0 where
 abbrev pub limits : Limits
 limits = record { tasks = 16; ticks = 65535; jobs = 4096 }
 
--- task i of a set; past the end a task that keeps every rule
+-- a task that keeps every rule, for places past the end of a set
 abbrev pub no-task : Task
 no-task = record { offset = 0; time = 1; period = 1; deadline = 1 }
 
+-- task i of a set
 abbrev pub task : List Task → ℕ → Task
 task ts i = getD ts i no-task
 
@@ -79,14 +80,16 @@ abbrev pub hyperperiod : List Task → ℕ
 hyperperiod [] = 1
 hyperperiod (t ∷ ts) = lcm (t .period) (hyperperiod ts)
 
--- the tests of a task's own rule
+-- do two tests both pass
 abbrev pub both : Bool → Bool → Bool
 both true b = b
 both false b = false
 
+-- the test of a task's own rule
 abbrev pub keeps-its-rule : Task → Bool
 keeps-its-rule t = both (leb 1 (t .time)) (both (leb (t .time) (t .deadline)) (leb (t .offset + t .deadline) (t .period)))
 
+-- n is 1 to 16
 abbrev pub few-enough : ℕ → Bool
 few-enough n = both (leb 1 n) (leb n (limits .tasks))
 
@@ -103,14 +106,16 @@ set-fault ts =
     (first (tasks-fault 1 0 ts)
     (first (unless (leb (hyperperiod ts) (limits .ticks)) 8 0) (unless (leb (all-jobs (hyperperiod ts) ts) (limits .jobs)) 9 0)))
 
+-- what a set's cycle comes to
 abbrev pub figures : List Task → Figures
 figures ts = record { hyperperiod = hyperperiod ts; jobs = all-jobs (hyperperiod ts) ts }
 
--- the tests of a set in the document's order, each condition by itself
+-- a task's period is below the one before
 abbrev pub period-falls : List Task → ℕ → Type 0
 period-falls ts zero = ⊥
 period-falls ts (suc i) = task ts (suc i) .period < task ts i .period
 
+-- the tests of task i, and of a set, in the document's order, each condition by itself
 abbrev pub task-tests : List Task → ℕ → List Test
 task-tests ts i = test 6 (suc i) (KeepsItsRule (task ts i) → ⊥) ∷ test 7 (suc i) (period-falls ts i) ∷ []
 
@@ -126,9 +131,11 @@ set-tests ts =
 abbrev pub memory-fault : TaskSet → Option Refusal
 memory-fault s = first (unless (few-enough (s .n)) 5 0) (set-fault (take (s .n) (s .tasks)))
 
+-- its tests in order
 abbrev pub memory-tests : TaskSet → List Test
 memory-tests s = test 5 0 ((1 ≤ s .n) × (s .n ≤ limits .tasks) → ⊥) ∷ set-tests (take (s .n) (s .tasks))
 
+-- what was judged, as the answer
 abbrev pub set-answer : Judged Figures → SetAnswer
 set-answer (gives f) = Good f
 set-answer (refuses r) = Refused r

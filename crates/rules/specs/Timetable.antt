@@ -13,6 +13,7 @@ use Rattle.rules.specs.Tasks.{task, release, due, jobs}
 abbrev pub entry-at : List Entry → ℕ → Entry
 entry-at τ j = getD τ j (record { task = 0; start = 0 })
 
+-- the one of two that a test picks
 abbrev pub pick : {A : Type 0} → Bool → A → A → A
 pick true a b = a
 pick false a b = b

@@ -18,12 +18,12 @@ enum-known-r c = search needs
 returns : tie.Need-returns
 returns c =
     let told = ap check-tells (sym (c .before .before .check .ensures) ∙ c .enum-told .given .1) in
-    (no-number _ _ told, no-place _ _ told)
+    record { its-number = no-number _ _ told; its-place = no-place _ _ told }
 
 returns-2 : tie.Need-returns-2
 returns-2 c =
     let told = ap check-tells (sym (c .before .before .before .check .ensures) ∙ c .before .r .given .1) in
-    (its-number _ _ told, its-place _ _ told)
+    record { its-number = its-number _ _ told; its-place = its-place _ _ told }
 
 pub hv-check-timetable-spec : {M : Type 1} → statement M
 hv-check-timetable-spec =

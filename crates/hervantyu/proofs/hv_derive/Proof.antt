@@ -35,7 +35,7 @@ returns : tie.Need-returns
 returns c =
     let d = c .before .before .before .before .before .derive .ensures in
     let told = ap make-tells (sym (d .0) ∙ c .before .n .given .1) in
-    (no-number _ _ told, (no-place _ _ told, (value-given _ _ told 0 _, d .1)))
+    record { its-number = no-number _ _ told; its-place = no-place _ _ told; its-length = value-given _ _ told 0 _; its-output = d .1 }
 
 same-length-2 : tie.Need-same-length-2
 same-length-2 c = search needs
@@ -45,7 +45,7 @@ returns-2 c =
     let d = c .before .before .before .before .before .derive .ensures in
     let refused = sym (d .0) ∙ c .before .r .given .1 in
     let told = ap make-tells refused in
-    (its-number _ _ told, (its-place _ _ told, (value-kept _ _ told (numbered _ _ _ refused) 0 _, d .1)))
+    record { its-number = its-number _ _ told; its-place = its-place _ _ told; its-length = value-kept _ _ told (numbered _ _ _ refused) 0 _; its-output = d .1 }
 
 pub hv-derive-spec : {M : Type 1} → statement M
 hv-derive-spec =

@@ -29,14 +29,14 @@ enum-known-r c = search needs
 returns : tie.Need-returns
 returns c =
     let told = ap set-tells (answered (c .before .before .before) ∙ c .before .f .given .1) in
-    (no-number _ _ told, (no-place _ _ told, (value-given _ _ told 0 _, value-given _ _ told 1 _)))
+    record { its-number = no-number _ _ told; its-place = no-place _ _ told; its-hyperperiod = value-given _ _ told 0 _; its-jobs = value-given _ _ told 1 _ }
 
 returns-2 : tie.Need-returns-2
 returns-2 c =
     let refused = answered (c .before .before .before) ∙ c .before .r .given .1 in
     let told = ap set-tells refused in
     let kept = value-kept _ _ told (omega (arith, set-refusals _ _ refused .1)) in
-    (its-number _ _ told, (its-place _ _ told, (kept 0 _, kept 1 _)))
+    record { its-number = its-number _ _ told; its-place = its-place _ _ told; its-hyperperiod = kept 0 _; its-jobs = kept 1 _ }
 
 pub hv-judge-set-spec : {M : Type 1} → statement M
 hv-judge-set-spec =
