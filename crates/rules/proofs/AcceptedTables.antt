@@ -23,9 +23,9 @@ use Rattle.rules.proofs.Records.{RecordsKeepRules, records-keep}
 use Rattle.rules.proofs.JudgedTables.{laws, timetable-judged}
 use Rattle.rules.proofs.GoodSets.{good-set}
 use Rattle.rules.proofs.ValidTimetables.{no-fault-valid, entries-valid}
-use Rattle.rules.proofs.Writable.{tables-short}
-use Rattle.rules.proofs.Images.{records-before, framed-tables, tables-stand, inversions-stand}
+use Rattle.rules.proofs.Images.{records-before}
 use Rattle.rules.proofs.ShownAt.{Stand, first-idles, first-inversions}
+use Rattle.rules.proofs.StandingTables.{read-stand}
 use Rattle.rules.proofs.Serving.{first-turn, Served}
 
 -- tables that are accepted with a timetable
@@ -57,16 +57,7 @@ module _ (ts : List Task) (X : Tables) (τ : List Entry) (judged : judge-tables 
   module _ (bytes : List ℕ) (are-bytes : Bytes bytes) (read : read-tables bytes ≡ gives (record { tasks = ts; tables = X })) where
     -- in an image they stand behind the tasks
     stand : Stand bytes ts X (records-before ts X)
-    stand =
-        let framed = framed-tables bytes are-bytes (record { tasks = ts; tables = X }) read in
-        record {
-          idles-there = rw (framed .1) (tables-stand ts X);
-          inversions-there = rw (framed .1) (inversions-stand ts X);
-          idles-fit = framed .0 .idles-fit;
-          inversions-fit = framed .0 .inversions-fit;
-          keep-rules = keep-rules;
-          short = rw (← its-tables .1) (tables-short ts τ (no-faults .0) valid-from);
-        }
+    stand = read-stand bytes ts X are-bytes read (no-faults .0) (no-faults .1)
 
     -- the dispatcher goes by them
     pub served : Served bytes ts X τ

@@ -192,7 +192,7 @@ module _ (bytes old : List ℕ) (n : ℕ) (b : Bytes bytes) where
       (w .0, w .1, w .2, m .2 ∙ into-gives (length old) _ (m .0) (sym (derives-image (w .2) (length old)) ∙ m .1)))
 
   -- where rebuilding answers with a length, the bytes are a table image, and the front of the output is that of the timetable behind it
-  rebuild-made : rebuild bytes old ≡ Made n → (ts : List Task) × (τ : List Entry) × TableImage bytes ts τ × (take n (rebuild-output bytes old) ≡ timetable-image ts τ)
+  pub rebuild-made : rebuild bytes old ≡ Made n → (ts : List Task) × (τ : List Entry) × TableImage bytes ts τ × (take n (rebuild-output bytes old) ≡ timetable-image ts τ)
   unfolding rebuild rebuild-output
   rebuild-made e =
       let m = made-gives (rebuilt-image (length old) bytes) old n e in

@@ -156,7 +156,7 @@ start-before-refuses e (gives τ) r h = clash (cc)
 start-before-refuses e (refuses s) r h = (s, refl, cc)
 
 -- what replay reports of a start that breaks a rule is 18
-late-number : (broken number : ℕ) → late broken ≡ suc number → suc number ≡ 18
+pub late-number : (broken number : ℕ) → late broken ≡ suc number → suc number ≡ 18
 late-number zero number e = clash (cc)
 late-number (suc broken) number e = sym e
 

@@ -44,7 +44,11 @@ pub mod Shown
 pub mod Starts
 pub mod Slots
 pub mod ShownAt
+pub mod StandingTables
+pub mod OneMoreStart
 pub mod Serving
+pub mod OffsetReplay
+pub mod WastedRecords
 pub mod ServedCalls
 pub mod AcceptedTables
 pub mod Demand3

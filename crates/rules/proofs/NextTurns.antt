@@ -106,7 +106,7 @@ shown-if-shows : {A B : Type 0} (b : Bool) (r r′ : B) (w w′ : ℕ) → shown
 shown-if-shows true r r′ w w′ e go = go refl (cc)
 shown-if-shows false r r′ w w′ e go = clash (cc)
 
-shown-if-none : {A B : Type 0} (b : Bool) (r : B) (w : ℕ) → shown-if {A = B} b no-record ≡ shows r w → A
+pub shown-if-none : {A B : Type 0} (b : Bool) (r : B) (w : ℕ) → shown-if {A = B} b no-record ≡ shows r w → A
 shown-if-none true r w e = clash (cc)
 shown-if-none false r w e = clash (cc)
 

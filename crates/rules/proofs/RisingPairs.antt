@@ -79,7 +79,7 @@ rise-pairs [] rises = tt
 rise-pairs (r ∷ p) rises = (at-most-zero (r .task) (r .job), rise-after r p rises)
 
 -- a record of a table is not below the table's bound
-not-below : {r : Inversion} (a b : ℕ) (p : List Inversion) → Pairs a b p → List·Memᴰ r p → at-most a b (r .task) (r .job) ≡ true
+pub not-below : {r : Inversion} (a b : ℕ) (p : List Inversion) → Pairs a b p → List·Memᴰ r p → at-most a b (r .task) (r .job) ≡ true
 not-below a b (s ∷ p) z (List·Memᴰ·head q) = rw q (z .0)
 not-below {r} a b (s ∷ p) z (List·Memᴰ·tail m) =
     at-most-next a b (s .task) (s .job) (r .task) (r .job) (z .0) (not-below (s .task) (suc (s .job)) p (z .1) m)

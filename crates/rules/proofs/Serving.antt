@@ -44,7 +44,7 @@ first-turn bytes ts X =
     start-next bytes (fresh (record { tasks = ts; tables = X })) 0 zeros 0 (first-offsets ts X .inversions) (first-offsets ts X .idle)
 
 -- with nothing started every slot holds 0
-slot-zeros : (m i : ℕ) → slot (replicate m 0) i ≡ 0
+pub slot-zeros : (m i : ℕ) → slot (replicate m 0) i ≡ 0
 slot-zeros zero i = slot-empty i
 slot-zeros (suc m) zero = refl
 slot-zeros (suc m) (suc i) = slot-zeros m i

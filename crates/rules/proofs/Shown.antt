@@ -83,7 +83,7 @@ is-not-own : (r : Inversion) (i k : ℕ) → (r .task ≡ i → r .job ≡ k →
 is-not-own r i k h = by-eq (r .task) i (λ u. rw (eq-eqb _ _ u) (ne-eqb _ _ (λ v. h u v))) (λ u. rw (ne-eqb _ _ u))
 
 -- a table of pairs above a job's has no delay for it
-delay-above : (a b : ℕ) (p : List Inversion) → Pairs a b p → (i k : ℕ) → (at-most a b i k ≡ true → ⊥) → delay-of p i k ≡ none
+pub delay-above : (a b : ℕ) (p : List Inversion) → Pairs a b p → (i k : ℕ) → (at-most a b i k ≡ true → ⊥) → delay-of p i k ≡ none
 delay-above a b p z i k h = by-option (delay-of p i k) (λ e. e) (λ d e. absurd (h (delay-bound a b p z i k d e)))
 
 -- a table in order from a pair on is all of its records from that pair on
@@ -92,7 +92,7 @@ from-all i k [] z = refl
 from-all i k (r ∷ p) z = rw (z .0, from)
 
 -- no pair is both at or above another and below it
-not-both : (i k j l : ℕ) → at-most i k j l ≡ true → at-most j (suc l) i k ≡ true → ⊥
+pub not-both : (i k j l : ℕ) → at-most i k j l ≡ true → at-most j (suc l) i k ≡ true → ⊥
 not-both i k j l a b =
     at-most-true i k j l a (λ u. at-most-true j (suc l) i k b (λ v. omega arith) (λ v w. omega arith))
     (λ u y. at-most-true j (suc l) i k b (λ v. omega arith) (λ v w. omega arith))
@@ -102,13 +102,13 @@ not-its-own : (r : Inversion) (i k : ℕ) → at-most i k (r .task) (r .job) ≡
 not-its-own r i k c u v = at-most-false i k (r .task) (r .job) c (λ y. omega arith) (λ y w. omega arith)
 
 -- a job's own record is below the next job's pair
-own-behind : (r : Inversion) (i k : ℕ) → r .task ≡ i → r .job ≡ k → at-most i (suc k) (r .task) (r .job) ≡ false
+pub own-behind : (r : Inversion) (i k : ℕ) → r .task ≡ i → r .job ≡ k → at-most i (suc k) (r .task) (r .job) ≡ false
 own-behind r i k u v =
     by-bool (at-most i (suc k) (r .task) (r .job))
     (λ y. at-most-true i (suc k) (r .task) (r .job) y (λ a. absurd (omega arith)) (λ a b. absurd (omega arith))) (λ y. y)
 
 -- and so is a record below the job's
-lower-behind : (r : Inversion) (i k : ℕ) → at-most i k (r .task) (r .job) ≡ false → at-most i (suc k) (r .task) (r .job) ≡ false
+pub lower-behind : (r : Inversion) (i k : ℕ) → at-most i k (r .task) (r .job) ≡ false → at-most i (suc k) (r .task) (r .job) ≡ false
 lower-behind r i k c =
     by-bool (at-most i (suc k) (r .task) (r .job))
     (λ y. at-most-false i k (r .task) (r .job) c
@@ -117,7 +117,7 @@ lower-behind r i k c =
     (λ y. y)
 
 -- a record at or above a job's pair that is not of that job is at or above the next job's
-other-ahead : (r : Inversion) (i k : ℕ) → at-most i k (r .task) (r .job) ≡ true → (r .task ≡ i → r .job ≡ k → ⊥) →
+pub other-ahead : (r : Inversion) (i k : ℕ) → at-most i k (r .task) (r .job) ≡ true → (r .task ≡ i → r .job ≡ k → ⊥) →
     at-most i (suc k) (r .task) (r .job) ≡ true
 other-ahead r i k c h =
     at-most-true i k (r .task) (r .job) c (λ u. at-most-lt i (suc k) (r .task) (r .job) u)

@@ -32,13 +32,13 @@ use Rattle.rules.proofs.Records.{RecordsKeepRules}
 use Rattle.rules.proofs.Shown.{ShowsIdles, no-idle, an-idle, ShowsInversions, no-inversion, an-inversion, from}
 
 -- a record of a lower task stands before a task's first job
-is-lower : (i : ℕ) (r : Inversion) → r .task < i → at-most i 0 (r .task) (r .job) ≡ false
+pub is-lower : (i : ℕ) (r : Inversion) → r .task < i → at-most i 0 (r .task) (r .job) ≡ false
 is-lower i r l =
     by-bool (at-most i 0 (r .task) (r .job))
     (λ b. at-most-true i 0 (r .task) (r .job) b (λ u. absurd (omega arith)) (λ u v. absurd (omega arith))) (λ b. b)
 
 -- and a record of the task or of a higher one does not
-is-not-lower : (i : ℕ) (r : Inversion) → i ≤ r .task → at-most i 0 (r .task) (r .job) ≡ true
+pub is-not-lower : (i : ℕ) (r : Inversion) → i ≤ r .task → at-most i 0 (r .task) (r .job) ≡ true
 is-not-lower i r l =
     by-eq i (r .task) (λ e. at-most-le i 0 (r .task) (r .job) e (omega arith)) (λ e. at-most-lt i 0 (r .task) (r .job) (omega arith))
 
@@ -115,7 +115,7 @@ module _ (bytes : List ℕ) where
         (λ b. rw (b, lower-before) (rw (is-not-lower i r (ltb-false (r .task) i b), from, add-zero o) (shows-inversions (r ∷ p) o here ends fit range)))
 
 -- each task's first offset stands in its slot
-slot-first : (ts : List Task) (X : Tables) (i many k : ℕ) (rest : List ℕ) → k < many →
+pub slot-first : (ts : List Task) (X : Tables) (i many k : ℕ) (rest : List ℕ) → k < many →
     slot (inversion-offsets ts X i many ++ rest) k ≡ inversion-offset ts X (i + k)
 slot-first ts X i zero k rest h = absurd (omega arith)
 slot-first ts X i (suc many) zero rest h = ap (inversion-offset ts X) (omega arith)

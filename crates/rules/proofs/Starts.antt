@@ -46,7 +46,7 @@ idle-as-table (no-idle e) t = rw e
 idle-as-table (an-idle e s) t = rw e
 
 -- and behind it stand the later ones
-past-idle-shown : {S : Source} {o : ℕ} {idles : List Idle} → ShowsIdles S o idles → ShowsIdles S (past-idle (S .idle-shown o) o) (later-idles idles)
+pub past-idle-shown : {S : Source} {o : ℕ} {idles : List Idle} → ShowsIdles S o idles → ShowsIdles S (past-idle (S .idle-shown o) o) (later-idles idles)
 past-idle-shown (no-idle e) = rw e (no-idle e)
 past-idle-shown (an-idle e s) = rw e s
 
@@ -61,7 +61,7 @@ module _ (G : Setting) (S : Source) (p : List Inversion) where
 
   module _ (z : Pairs 0 0 p) (x : G .Started) (offsets : List ℕ) (placed : Placed x offsets) where
     -- what is decided at offsets is what is decided by the tables
-    decided-as-table : (t o : ℕ) (idles : List Idle) → ShowsIdles S o idles →
+    pub decided-as-table : (t o : ℕ) (idles : List Idle) → ShowsIdles S o idles →
         decide G x t (idle-now (S .idle-shown o) t) (shown-delays G S x offsets) ≡ decided-by G x t idles p
     decided-as-table t o idles s =
         rw (idle-as-table s t)
@@ -70,7 +70,7 @@ module _ (G : Setting) (S : Source) (p : List Inversion) where
         (own-as-table S i (G .next-job x i) 0 0 p z (slot offsets i) (placed i l))))
 
     -- all offsets can be read
-    readable-at : (o : ℕ) (idles : List Idle) → ShowsIdles S o idles → all-readable G S offsets o ≡ true
+    pub readable-at : (o : ℕ) (idles : List Idle) → ShowsIdles S o idles → all-readable G S offsets o ≡ true
     readable-at o idles s =
         both-in _ _ (idles-readable s) (shown-readable S (G .tasks) offsets (λ i. from i (G .next-job x i) p) placed)
 
@@ -98,7 +98,7 @@ module _ (G : Setting) (S : Source) (p : List Inversion) where
 
   module _ (L : Laws G) (z : Pairs 0 0 p) where
     -- after a start each task's offset shows its records from its next job on again
-    placed-moved : (x : G .Started) (offsets : List ℕ) (f i s : ℕ) → G .breaks x f i s ≡ 0 → Placed x offsets →
+    pub placed-moved : (x : G .Started) (offsets : List ℕ) (f i s : ℕ) → G .breaks x f i s ≡ 0 → Placed x offsets →
         Placed (G .start-job x i) (moved G S x offsets i)
     placed-moved x offsets f i s e placed j l =
         let v : ℕ = past-own (S .inversion-shown (slot offsets i)) i (G .next-job x i) (slot offsets i) in

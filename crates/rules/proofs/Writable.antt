@@ -3,7 +3,7 @@ use mathlib.Core.Path.{_≡_, refl, ap}
 use mathlib.Core.Bool.{true}
 use mathlib.Core.List.{List, [], _∷_, map}
 use mathlib.Core.Option.{none}
-use Prim.Native.Nat.{ℕ, suc, _+_, _-_, _*_, _≤_, _<_}
+use Prim.Native.Nat.{ℕ, suc, _+_, _-_, _≤_, _<_}
 use native.Mathlib.Omega.{arith}
 use native.Mathlib.Nat.{le-of-dvd, div-le-self}
 use lib.Dec.{ltb}
@@ -19,9 +19,8 @@ use Rattle.rules.specs.Setting.{Setting}
 use Rattle.rules.specs.Priority.{setting}
 use Rattle.rules.specs.Irregularities.{at-most, insert, runs, forced-idles, inversion-of, inversions}
 use Rattle.rules.specs.Judging.{inversion-in-range, tables}
-use Rattle.rules.specs.Marks.{TK, SL, ID, PV, EN, row, size}
+use Rattle.rules.specs.Marks.{TK, SL, ID, PV, row}
 use Rattle.rules.specs.Image.{of-task, of-entry, of-idle, of-inversion, Each, WritableTimetable, WritableTables}
-use Rattle.rules.specs.Offsets.{last-offset, tables-offset}
 use Rattle.rules.proofs.Cases.{by-bool, both-true}
 use Rattle.rules.proofs.Theory.{Laws, ValidFrom, finished, entry, Rising}
 use Rattle.rules.proofs.Derived.{idles-rising, Every, inversions-every}
@@ -137,16 +136,3 @@ module _ (ts : List Task) (τ : List Entry) (good : set-fault ts ≡ none) (vali
           g .short,
         );
       }
-
-  -- the image of its tables is short enough for every byte offset
-  pub tables-short : tables-offset ts + (length (tables ts τ .idles) * size ID + (length (tables ts τ .inversions) * size PV + size EN)) ≤ last-offset
-  tables-short =
-      let g : GoodSet ts (hyperperiod ts) = good-set ts good in
-      omega (
-        arith,
-        entries-few,
-        idles-few (hyperperiod ts) 0 (forced-idles (setting ts) [] 0 τ) its-idles-rise,
-        inversions-few (setting ts) [] τ,
-        g .few-tasks,
-        g .short,
-      )
