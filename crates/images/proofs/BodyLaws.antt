@@ -1,10 +1,9 @@
 -- Bodies that stand whole in an image: what each reader answers is what the rule book reads there. Assumes nothing.
 use mathlib.Core.Path.{_≡_, refl, sym, _∙_, ap, ap₂}
 use mathlib.Core.List.{List, [], _∷_}
-use Prim.Native.Nat.{ℕ, zero, suc, _+_, _-_, _≤_, _<_}
+use Prim.Native.Nat.{ℕ, zero, suc, _+_, _-_, _≤_}
 use native.Mathlib.Nat.{sub-zero, zero-sub, suc-sub-suc}
 use native.Mathlib.Omega.{arith}
-use borrow.Author.Tests.{le-leb, lt-leb}
 use lib.ListN.{length, take, drop, length-drop}
 use lib.Seq.{take-nil, drop-nil, drop-drop, length-take-le, take-take}
 use Rattle.fields.specs.Number.{number, field-at}
@@ -26,14 +25,6 @@ fields-whole [] body at h = refl
 fields-whole (w ∷ ws) body at h =
     ap₂ _∷_ (field-at-whole w body at (omega arith)) (rw (drop-drop w at body) (fields-whole ws body (at + w) (omega arith)))
 
--- a part that stands whole
-pub part-whole : (bytes : List ℕ) (at len : ℕ) → at + len ≤ length bytes → part-of bytes at len ≡ take len (drop at bytes)
-part-whole bytes at len h = rw (le-leb (at + len) (length bytes) h)
-
--- and one that does not
-pub part-cut : (bytes : List ℕ) (at len : ℕ) → length bytes < at + len → part-of bytes at len ≡ []
-part-cut bytes at len h = rw (lt-leb (at + len) (length bytes) h)
-
 -- the rest of a front is a front of the rest
 drop-take : (w n : ℕ) (bytes : List ℕ) → drop w (take n bytes) ≡ take (n - w) (drop w bytes)
 drop-take zero n bytes = rw (sub-zero n)
@@ -53,11 +44,10 @@ values-read : (m : Mark) (bytes : List ℕ) (at : ℕ) → at + size m ≤ lengt
     fields-at (row m .widths) (part-of bytes (at + 2) (body-length m)) 0 ≡ values m (drop at bytes)
 values-read m bytes at h =
     let ws = row m .widths in
-    rw (part-whole bytes (at + 2) (body-length m) (omega arith))
-    (fields-whole ws (take (total ws) (drop (at + 2) bytes)) 0
+    fields-whole ws (take (total ws) (drop (at + 2) bytes)) 0
     (omega (arith, length-take-le (total ws) (drop (at + 2) bytes) (omega (arith, length-drop (at + 2) bytes))))
     ∙ values-front ws (drop (at + 2) bytes) (total ws) (omega arith)
-    ∙ ap (values-in ws) (sym (drop-drop 2 at bytes)))
+    ∙ ap (values-in ws) (sym (drop-drop 2 at bytes))
 
 -- so each reader of a body answers what the rule book reads there
 module _ (bytes : List ℕ) (at : ℕ) where

@@ -1,19 +1,19 @@
--- The code's table of marks is the rule book's, entry by entry, and so is the search in it. Assumes nothing.
-use mathlib.Core.Path.{_≡_, refl, sym, _∙_}
+-- The code's table of marks is the rule book's, entry by entry, and so is the search in it; and a whole record at a place. Assumes nothing.
+use mathlib.Core.Path.{_≡_, refl, sym}
 use mathlib.Core.Bool.{true, false}
 use mathlib.Core.List.{List, [], _∷_}
-use mathlib.Core.Option.{some}
-use Prim.Native.Nat.{ℕ, zero, suc, _+_, _≤_, _<_}
+use Prim.Native.Nat.{ℕ, zero, suc, _+_, _-_, _≤_, _<_}
+use native.Mathlib.Nat.{add-zero}
 use native.Mathlib.Numerals.{add-one}
 use native.Mathlib.Omega.{arith}
-use borrow.Author.Tests.{eq-eqb, ne-eqb, lt-ltb, le-ltb}
+use borrow.Author.Tests.{eq-eqb, ne-eqb, lt-leb, le-leb, leb-true}
 use lib.Dec.{eqb, leb}
-use lib.ListN.{length, getD, getElem?, drop}
-use Rattle.rules.specs.Marks.{Mark, EN, row, marks, mark-in}
-use Rattle.rules.specs.Framing.{in-kind, may-follow}
-use Rattle.rules.proofs.Cases.{by-eq}
+use lib.ListN.{length, getD, getElem?, drop, length-drop}
+use lib.Seq.{getD-drop}
+use Rattle.rules.specs.Marks.{Mark, TS, TK, SL, ID, PV, EN, row, marks, size, body-length, mark-in}
+use Rattle.rules.proofs.Cases.{by-eq, both-true}
 use Rattle.images.specs.declared.Row.{Row}
-use Rattle.images.specs.Table.{mark-of, code-row, found-at, kind-at, allowed-at}
+use Rattle.images.specs.Table.{mark-of, code-row, found-at, stands-at}
 
 -- a place that is another has the row of that place's mark
 pub same-row : (k i : ℕ) → k ≡ i → code-row (mark-of i) ≡ code-row (mark-of k)
@@ -29,11 +29,14 @@ last-row (suc (suc (suc (suc zero)))) h = absurd (omega arith)
 last-row (suc (suc (suc (suc (suc zero))))) h = refl
 last-row (suc (suc (suc (suc (suc (suc k)))))) h = refl
 
--- what a place inside a list has is found there
-pub found-inside : {A : Type 0} (xs : List A) (k : ℕ) (d : A) → k < length xs → getElem? xs k ≡ some (getD xs k d)
-found-inside [] k d h = absurd (omega arith)
-found-inside (x ∷ xs) zero d h = refl
-found-inside (x ∷ xs) (suc k) d h = found-inside xs k d (omega arith)
+-- no body is longer than a task's
+pub short-body : (m : Mark) → body-length m ≤ 16
+short-body TS = omega arith
+short-body TK = omega arith
+short-body SL = omega arith
+short-body ID = omega arith
+short-body PV = omega arith
+short-body EN = omega arith
 
 -- the search from a place on ends where the mark there has the two bytes
 here : (ms : List Mark) (k a b : ℕ) → k < length ms → row (getD ms k EN) .byte₁ ≡ a → row (getD ms k EN) .byte₂ ≡ b → mark-in (drop k ms) a b ≡ getElem? ms k
@@ -59,20 +62,44 @@ module _ (k a b : ℕ) (r : Row) (h : k < 6) (read : r ≡ code-row (mark-of k))
   pub mark-later : (r .first ≡ a → r .second ≡ b → ⊥) → mark-in (drop k marks) a b ≡ mark-in (drop (k + 1) marks) a b
   mark-later n = rw (add-one k) (later marks k a b h (rw read at n))
 
--- which kinds of image have a mark, and where it may stand there
-module _ (kind k : ℕ) (r : Row) (read : r ≡ code-row (mark-of k)) where
-  pub in-timetable : kind ≡ 1 → r .timetable ≡ kind-at kind k
-  in-timetable e = rw (read, eq-eqb kind 1 e, in-kind)
+-- a whole record at a place, with the row that was read
+module _ (bytes : List ℕ) (at : ℕ) (m : Mark) where
+  -- the bytes from the place on
+  abbrev rest : List ℕ
+  rest = drop at bytes
 
-  pub in-tables : (kind ≡ 1 → ⊥) → r .tables ≡ kind-at kind k
-  in-tables n = rw (read, ne-eqb kind 1 n, in-kind)
+  -- the first of them
+  front : getD rest 0 0 ≡ getD bytes at 0
+  front = rw (getD-drop at bytes 0 0, add-zero)
 
-  pub where-due : (least : ℕ) → kind-at kind k ≡ true → least < 2 → eqb (r .rank) least ≡ allowed-at kind least k
-  where-due least e h = rw (read, e, lt-ltb least 2 h, may-follow)
+  module _ (r : Row) (read : r ≡ code-row m) where
+    -- fewer bytes are left than the record has
+    pub stands-cut : length bytes - at < r .body + 2 → false ≡ stands-at bytes at m
+    unfolding stands-at
+    stands-cut h =
+        let short : length bytes - at < body-length m + 2 = rw read at h in
+        rw (lt-leb (size m) (length rest) (omega (arith, length-drop at bytes)))
 
-  pub behind-lower : (least : ℕ) → kind-at kind k ≡ true → 2 ≤ least → leb least (r .rank) ≡ allowed-at kind least k
-  behind-lower least e h = rw (read, e, le-ltb least 2 h, may-follow)
+    module _ (h : r .body + 2 ≤ length bytes - at) where
+      -- as many are left
+      not-cut : leb (size m) (length rest) ≡ true
+      not-cut = let room : body-length m + 2 ≤ length bytes - at = rw read at h in le-leb (size m) (length rest) (omega (arith, length-drop at bytes))
 
--- a mark that the kind does not have may stand nowhere
-pub not-in-kind : (kind least k : ℕ) → kind-at kind k ≡ false → false ≡ allowed-at kind least k
-not-in-kind kind least k e = rw e
+      -- the first byte is another
+      pub stands-other : (getD bytes at 0 ≡ r .first → ⊥) → false ≡ stands-at bytes at m
+      unfolding stands-at
+      stands-other n =
+          let other : getD bytes at 0 ≡ row m .byte₁ → ⊥ = rw read at n in
+          rw (not-cut, front, ne-eqb (getD bytes at 0) (row m .byte₁) other)
+
+      -- it is the mark's, and the second byte decides
+      pub stands-is : getD bytes at 0 ≡ r .first → eqb (getD bytes (at + 1) 0) (r .second) ≡ stands-at bytes at m
+      unfolding stands-at
+      stands-is e =
+          let same : getD bytes at 0 ≡ row m .byte₁ = rw read at e in
+          rw (read, not-cut, front, eq-eqb (getD bytes at 0) (row m .byte₁) same, getD-drop at bytes 1 0)
+
+  -- a whole record ends inside the image
+  pub stands-whole : stands-at bytes at m ≡ true → at + size m ≤ length bytes
+  unfolding stands-at
+  stands-whole e = omega (arith, leb-true (size m) (length rest) (both-true (leb (size m) (length rest)) _ e .0), length-drop at bytes)

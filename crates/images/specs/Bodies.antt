@@ -1,24 +1,18 @@
 -- Bodies: the part of an image that a body is, and what each reader answers for any part. Assumes nothing.
-use mathlib.Core.List.{List, [], _∷_, _++_}
-use Prim.Native.Nat.{ℕ, zero, suc, _+_, _-_}
-use lib.Dec.{leb}
-use lib.ListN.{length, take, drop, replicate}
+use mathlib.Core.List.{List, [], _∷_}
+use Prim.Native.Nat.{ℕ}
+use lib.ListN.{take, drop}
 use Rattle.fields.specs.Number.{field-at}
 use Rattle.rules.specs.declared.Task.{Task}
-use Rattle.rules.specs.declared.TaskSet.{TaskSet}
 use Rattle.rules.specs.declared.Entry.{Entry}
 use Rattle.rules.specs.declared.Idle.{Idle}
 use Rattle.rules.specs.declared.Inversion.{Inversion}
-use Rattle.rules.specs.Tasks.{limits}
-use Rattle.rules.specs.Timetable.{pick}
 use Rattle.rules.specs.Priority.{slot}
-use Rattle.rules.specs.Marks.{TS, TK, size, body-length}
-use Rattle.rules.specs.Dispatcher.{zero-task}
 use Rattle.images.specs.declared.Head.{Head}
 
--- so many bytes from a place on, none where they do not stand there whole
+-- so many bytes from a place on
 abbrev pub part-of : List ℕ → ℕ → ℕ → List ℕ
-part-of bytes at len = pick (leb (at + len) (length bytes)) (take len (drop at bytes)) []
+part-of bytes at len = take len (drop at bytes)
 
 abbrev pub head-of : List ℕ → Head
 head-of body = record { edition = field-at 1 body 0; kind = field-at 1 body 1; n = field-at 1 body 2 }
@@ -44,15 +38,3 @@ inversion-of body = record { task = field-at 1 body 0; job = field-at 2 body 1; 
 
 abbrev pub count-of : List ℕ → ℕ
 count-of body = field-at 4 body 0
-
--- so many tasks read from TK records that stand one after the other
-unfoldable pub tasks-at : List ℕ → ℕ → ℕ → List Task
-tasks-at bytes at zero = []
-tasks-at bytes at (suc many) = task-of (part-of bytes (at + 2) (body-length TK)) ∷ tasks-at bytes (at + size TK) many
-
--- a set read behind TS: the other slots are zero; more tasks than slots are none
-unfoldable pub set-read : ℕ → List ℕ → TaskSet
-set-read n bytes =
-    pick (leb n (limits .tasks))
-    (record { n = n; tasks = tasks-at bytes (size TS) n ++ replicate (limits .tasks - n) zero-task })
-    (record { n = 0; tasks = replicate (limits .tasks) zero-task })

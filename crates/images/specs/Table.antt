@@ -1,11 +1,12 @@
--- The code's table of marks, in the rule book's terms. Assumes nothing.
+-- The code's table of marks, in the rule book's terms, and what a whole record at a place is. Assumes nothing.
 use mathlib.Core.Bool.{Bool}
+use mathlib.Core.List.{List}
 use mathlib.Core.Option.{Option}
 use Prim.Native.Nat.{ℕ}
-use lib.ListN.{getD, getElem?}
+use lib.Dec.{leb, eqb}
+use lib.ListN.{length, getD, getElem?, drop}
 use Rattle.rules.specs.Tasks.{both}
-use Rattle.rules.specs.Marks.{Mark, EN, row, marks, body-length}
-use Rattle.rules.specs.Framing.{in-kind, may-follow}
+use Rattle.rules.specs.Marks.{Mark, EN, row, marks, size, body-length}
 use Rattle.images.specs.declared.Row.{Row}
 
 -- the mark at a place of the table
@@ -26,10 +27,8 @@ code-row m = record {
   rank = row m .rank;
 }
 
--- does an image of a kind have the mark at a place of the table
-abbrev pub kind-at : ℕ → ℕ → Bool
-kind-at kind k = in-kind kind (row (mark-of k))
-
--- and may it stand where no rank below the least may
-abbrev pub allowed-at : ℕ → ℕ → ℕ → Bool
-allowed-at kind least k = both (kind-at kind k) (may-follow least (row (mark-of k) .rank))
+-- does a whole record with a mark stand at a place
+unfoldable pub stands-at : List ℕ → ℕ → Mark → Bool
+stands-at bytes at m =
+    both (leb (size m) (length (drop at bytes)))
+    (both (eqb (getD (drop at bytes) 0 0) (row m .byte₁)) (eqb (getD (drop at bytes) 1 0) (row m .byte₂)))

@@ -7,7 +7,7 @@ use rules::Task;
 use rules::TaskSet;
 ghost use mathlib.Core.Path.{_≡_};
 ghost use mathlib.Core.Option.{none};
-ghost use Prim.Native.Nat.{_≤_, _<_};
+ghost use Prim.Native.Nat.{suc, _≤_, _<_};
 ghost use lib.ListN.{take};
 ghost use Rattle.rules.specs.Tasks as book;
 ghost use Rattle.sets.specs.Sets.{capped, FirstFault};
@@ -89,6 +89,21 @@ fn tasks_fault(s: TaskSet) -> Refusal
     }
 }
 
+// The greatest common divisor of two numbers, by remainders.
+fn common_divisor(t: u32, h: u32) -> u32
+    requires { ⌜ 1 ≤ t ⌝ }
+    ensures { λ r. ⌜ (1 ≤ r) × (r ≡ book.gcd (suc h) t h) ⌝ }
+{
+    let mut a = t;
+    let mut b = h;
+    while 0 < b {
+        let r = a % b;
+        a = b;
+        b = r;
+    }
+    a
+}
+
 // The least common multiple of two numbers, or one more than the limit where it is above it.
 fn common_multiple(t: u32, h: u32) -> u32
     requires { ⌜ (1 ≤ t) × (1 ≤ h) × (h ≤ 65535) ⌝ }
@@ -100,23 +115,11 @@ fn common_multiple(t: u32, h: u32) -> u32
     if h % t == 0 {
         return h;
     }
-    if t % h == 0 {
-        return t;
+    let m = t / common_divisor(t, h) * h;
+    if 65535 < m {
+        return 65536;
     }
-    let mut step = t;
-    let mut other = h;
-    if t < h {
-        step = h;
-        other = t;
-    }
-    let mut m = step;
-    while m <= 65535 {
-        if m % other == 0 {
-            return m;
-        }
-        m += step;
-    }
-    65536
+    m
 }
 
 // The hyperperiod of the first n tasks, or one more than the limit where it is above it.

@@ -1,3 +1,4 @@
 pub mod Puts
 pub mod Records
+pub mod ImagePut
 pub mod Promises

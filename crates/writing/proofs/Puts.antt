@@ -2,10 +2,10 @@
 use mathlib.Core.Path.{_≡_, refl, sym, _∙_}
 use mathlib.Core.List.{List, [], _∷_, _++_, append-assoc}
 use Prim.Native.Nat.{ℕ, suc, _+_, _≤_, _<_}
-use native.Mathlib.Nat.{add-assoc, ne-of-lt}
+use native.Mathlib.Nat.{add-zero, add-assoc, ne-of-lt}
 use native.Mathlib.Omega.{arith}
 use borrow.Author.Tests.{le-leb, lt-leb}
-use lib.ListN.{length, set, take, drop, length-append, length-drop}
+use lib.ListN.{length, set, take, drop, length-append, length-drop, take-append-drop}
 use lib.Seq.{length-take-le, take-at, drop-at, take-append-le, take-take, drop-drop, set-comm, sets, length-sets, sets-eq}
 use Rattle.fields.proofs.Places.{by-whole}
 use Rattle.writing.specs.Writing.{put-at}
@@ -20,6 +20,10 @@ put-fits old at xs h = rw (le-leb (at + length xs) (length old) h)
 pub put-cut : (old : List ℕ) (at : ℕ) (xs : List ℕ) → length old < at + length xs → put-at old at xs ≡ old
 unfolding put-at
 put-cut old at xs h = rw (lt-leb (at + length xs) (length old) h)
+
+-- no bytes change nothing
+pub put-none : (old : List ℕ) (at : ℕ) → at ≤ length old → put-at old at [] ≡ old
+put-none old at l = put-fits old at [] (omega arith) ∙ rw (add-zero at) (take-append-drop at old)
 
 -- bytes that fit are stored one by one
 pub put-sets : (old : List ℕ) (at : ℕ) (xs : List ℕ) → at + length xs ≤ length old → put-at old at xs ≡ sets old at xs

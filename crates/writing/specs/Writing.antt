@@ -1,10 +1,10 @@
 -- What the writers leave in a lent output: a record at a place, and all other bytes as they were. Assumes nothing.
 use mathlib.Core.List.{List, _++_}
-use Prim.Native.Nat.{ℕ, _+_}
+use Prim.Native.Nat.{ℕ, _+_, _*_}
 use lib.Dec.{leb}
 use lib.ListN.{length, take, drop, set}
 use Rattle.rules.specs.Timetable.{pick}
-use Rattle.rules.specs.Marks.{row}
+use Rattle.rules.specs.Marks.{TS, TK, row, size}
 use Rattle.rules.specs.Image.{Record, written}
 use Rattle.images.specs.Table.{mark-of}
 
@@ -16,5 +16,10 @@ mark-put old at k = set (set old at (row (mark-of k) .byte₁)) (at + 1) (row (m
 unfoldable pub put-at : List ℕ → ℕ → List ℕ → List ℕ
 put-at old at bytes = pick (leb (at + length bytes) (length old)) (take at old ++ (bytes ++ drop (at + length bytes) old)) old
 
+-- a record at a place, where it fits
 abbrev pub record-put : List ℕ → ℕ → Record → List ℕ
 record-put old at r = put-at old at (written r)
+
+-- the place behind TS and n tasks
+abbrev pub behind-tasks : ℕ → ℕ
+behind-tasks n = size TS + n * size TK

@@ -10,13 +10,14 @@ use rules::Entry;
 use rules::Idle;
 use rules::Inversion;
 use rules::Task;
+use rules::TaskSet;
 ghost use mathlib.Core.Path.{_≡_};
 ghost use mathlib.Core.List.{[], _∷_};
 ghost use Prim.Native.Nat.{_+_, _-_, _<_, _≤_};
-ghost use lib.ListN.{length};
+ghost use lib.ListN.{length, take};
 ghost use Rattle.rules.specs.Marks as book-marks;
 ghost use Rattle.rules.specs.Image as book;
-ghost use Rattle.writing.specs.Writing.{mark-put, record-put};
+ghost use Rattle.writing.specs.Writing.{mark-put, put-at, record-put, behind-tasks};
 
 // The bytes of a whole record of each mark.
 const HEAD: usize = ROWS[TS].body + 2;
@@ -117,5 +118,21 @@ pub fn put_end(out: &mut [u8], at: usize, before: u32)
     if END <= room(out.len(), at) {
         put_mark(out, at, EN);
         fields::store4(out, at + 2, before);
+    }
+}
+
+// TS and the tasks at the front of the output.
+pub fn put_set(out: &mut [u8], kind: u32, s: TaskSet)
+    requires { ⌜ (s .n ≤ 16) × (behind-tasks (s .n) ≤ length (now out)) ⌝ }
+    ensures { λ _. ⌜ now (out .exit) ≡ put-at (now (out .entry)) 0 (book.image (book.set-records kind (take (s .n) (s .tasks)))) ⌝ }
+{
+    put_head(out, 0, kind, s.n);
+    let n = s.n as usize;
+    let mut at = HEAD;
+    let mut i: usize = 0;
+    while i < n {
+        put_task(out, at, s.tasks[i]);
+        at += TASK;
+        i += 1;
     }
 }

@@ -1,15 +1,11 @@
--- `images::part` meets its contract: a part that stands whole is taken, another is empty. Assumes nothing.
-use mathlib.Core.Path.{sym}
-use mathlib.Core.Logic.{⊎-elim}
+-- `images::part` meets its contract: the part that is lent has the length that was asked for. Assumes nothing.
+use mathlib.Core.Path.{ap}
+use Prim.Native.Nat.{ℕ}
 use native.Mathlib.Nat.{add-sub-cancel-left}
-use native.Mathlib.Omega.{arith}
 use borrow.Author.Needs.{needs}
-use Rattle.images.proofs.BodyLaws.{part-whole, part-cut}
+use lib.ListN.{take, drop}
 use Rattle.images.proofs.part.Statement.{statement}
 use Rattle.images.proofs.part.Tie as tie
-
-sub-if2 : tie.Need-sub-if2
-sub-if2 c = search needs
 
 add-end : tie.Need-add-end
 add-end c = search needs
@@ -25,37 +21,8 @@ part-result-end c = search needs
 
 returns : tie.Need-returns
 returns c =
-    let a = c .before .before .before .args in
-    rw add-sub-cancel-left (sym (part-whole (a .image .now) (a .at) (a .len) (omega arith)))
-
-sub-result-2 : tie.Need-sub-result-2
-sub-result-2 c = search needs
-
-part-result-start-2 : tie.Need-part-result-start-2
-part-result-start-2 c = search needs
-
-part-result-end-2 : tie.Need-part-result-end-2
-part-result-end-2 c = search needs
-
-returns-2 : tie.Need-returns-2
-returns-2 c =
-    let a = c .before .before .args in
-    ⊎-elim
-    (λ w. sym (part-cut (a .image .now) (a .at) (a .len) (omega arith)))
-    (λ w. sym (part-cut (a .image .now) (a .at) (a .len) (omega arith)))
-    (c .before .if1 .came)
+    let a = c .before .args in
+    ap (λ (many : ℕ). take many (drop (a .at) (a .image .now))) (add-sub-cancel-left (a .at) (a .len))
 
 pub part-spec : {M : Type 1} → statement M
-part-spec =
-    tie.close
-    (tie.spec
-    sub-if2
-    add-end
-    sub-result
-    part-result-start
-    part-result-end
-    returns
-    sub-result-2
-    part-result-start-2
-    part-result-end-2
-    returns-2)
+part-spec = tie.close (tie.spec add-end sub-result part-result-start part-result-end returns)

@@ -1,0 +1,10 @@
+pub mod AllowedLaws
+pub mod SetLaws
+pub mod RecordLaws
+pub mod PlaceLaws
+pub mod StepLaws
+pub mod TaskLaws
+pub mod FromPlace
+pub mod RoomLaws
+pub mod Entries
+pub mod Promises

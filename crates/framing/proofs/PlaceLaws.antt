@@ -1,0 +1,108 @@
+-- Places in an image: the first one, and the one behind a record that framing goes on behind. Assumes nothing.
+use mathlib.Core.Path.{_≡_, refl, sym}
+use mathlib.Core.Bool.{Bool, true, false}
+use mathlib.Core.List.{List}
+use mathlib.Core.Option.{Option, none, some}
+use Prim.Native.Nat.{ℕ, zero, suc, _+_, _-_, _≤_}
+use native.Mathlib.Omega.{arith}
+use lib.Dec.{eqb}
+use lib.ListN.{length}
+use Rattle.rules.specs.declared.Place.{Place}
+use Rattle.rules.specs.declared.Layout.{Layout}
+use Rattle.rules.specs.declared.Refusal.{Refusal}
+use Rattle.rules.specs.Refusals.{gives, refuses, first, unless}
+use Rattle.rules.specs.Tasks.{few-enough}
+use Rattle.rules.specs.Priority.{slot}
+use Rattle.rules.specs.Marks.{Mark, TS, TK, SL, ID, PV, EN, row, size}
+use Rattle.rules.specs.Framing.{may-follow, tasks-due, goes-on, ends, index-of-end, start-place}
+use Rattle.rules.proofs.Cases.{clash}
+use Rattle.rules.proofs.Marked.{due-turn, later-turn}
+use Rattle.rules.proofs.FramingTurns as turns
+use Rattle.framing.specs.Frames.{Placed}
+
+-- before the first record
+pub placed-at-start : (bytes : List ℕ) → Placed bytes start-place
+placed-at-start bytes = record {
+  inside = omega arith;
+  few = omega arith;
+  few-listed = omega arith;
+  before-head = λ r. refl;
+  tasks-due = λ r. absurd (omega arith);
+  behind-tasks = λ r. absurd (omega arith);
+}
+
+-- behind the TK records
+placed-behind : (bytes : List ℕ) (t : Place) → t .offset ≤ length bytes → t .index ≤ t .offset → 2 ≤ t .rank →
+    t .index ≡ suc (t .tasks + (t .listed + t .inversions)) → Placed bytes t
+placed-behind bytes t inside few rank counted = record {
+  inside = inside;
+  few = few;
+  few-listed = omega arith;
+  before-head = λ r. absurd (omega arith);
+  tasks-due = λ r. absurd (omega arith);
+  behind-tasks = λ r. counted;
+}
+
+-- where so many TK records are due
+placed-due : (bytes : List ℕ) (index offset due n : ℕ) → offset ≤ length bytes → index ≤ offset → index + due ≡ suc n →
+    Placed bytes (tasks-due index offset due n)
+placed-due bytes index offset zero n inside few counted =
+    placed-behind bytes (tasks-due index offset zero n) inside few (omega arith) (omega arith)
+placed-due bytes index offset (suc due) n inside few counted = record {
+  inside = inside;
+  few = few;
+  few-listed = omega arith;
+  before-head = λ r. absurd (omega arith);
+  tasks-due = λ r. (omega arith, counted);
+  behind-tasks = λ r. absurd (omega arith);
+}
+
+-- a mark that comes behind the TK records finds them counted
+counted-behind : {s : Place} (bytes : List ℕ) (m : Mark) → 2 ≤ row m .rank → Placed bytes s → may-follow (s .rank) (row m .rank) ≡ true →
+    s .index ≡ suc (s .tasks + (s .listed + s .inversions))
+counted-behind {s = s} bytes m h p turn = p .behind-tasks (later-turn (s .rank) (row m .rank) h turn .0)
+
+-- a record that framing goes on behind leads to a place in the image
+pub placed-after : {kind : ℕ} {s t : Place} {m : Mark} {v : List ℕ} (bytes : List ℕ) → Placed bytes s → s .offset + size m ≤ length bytes →
+    may-follow (s .rank) (row m .rank) ≡ true → turns.After kind s m v (goes-on t) → Placed bytes t
+placed-after {s = s} bytes p whole turn (turns.past-head {v = v} e) =
+    let first : s .rank ≡ 0 = due-turn (s .rank) (row TS .rank) (omega arith) turn in
+    let none-before = p .before-head first in
+    placed-due bytes (suc (s .index)) (s .offset + size TS) (slot v 2) (slot v 2) whole (omega arith) (omega arith)
+placed-after {s = s} bytes p whole turn turns.past-task =
+    let counted = p .tasks-due (due-turn (s .rank) (row TK .rank) (omega arith) turn) in
+    placed-due bytes (suc (s .index)) (s .offset + size TK) (s .due - 1) (s .tasks) whole (omega arith) (omega arith)
+placed-after {t = t} bytes p whole turn turns.past-entry =
+    let counted = counted-behind bytes SL (omega arith) p turn in
+    placed-behind bytes t whole (omega arith) (omega arith) (omega arith)
+placed-after {t = t} bytes p whole turn turns.past-idle =
+    let counted = counted-behind bytes ID (omega arith) p turn in
+    placed-behind bytes t whole (omega arith) (omega arith) (omega arith)
+placed-after {t = t} bytes p whole turn turns.past-inversion =
+    let counted = counted-behind bytes PV (omega arith) p turn in
+    placed-behind bytes t whole (omega arith) (omega arith) (omega arith)
+
+-- where EN ends framing, its index follows from the layout, and the tasks stand before it
+pub end-index : {kind : ℕ} {s : Place} {m : Mark} {v : List ℕ} {l : Layout} (bytes : List ℕ) → Placed bytes s → may-follow (s .rank) (row m .rank) ≡ true →
+    turns.After kind s m v (ends (gives l)) → (index-of-end l ≡ s .index) × (2 ≤ s .rank)
+end-index {s = s} bytes p turn (turns.past-end e) =
+    (sym (counted-behind bytes EN (omega arith) p turn), later-turn (s .rank) (row EN .rank) (omega arith) turn .0)
+
+-- a test that fails refuses at its place
+unless-place : (b : Bool) (number place : ℕ) (r : Refusal) → unless b number place ≡ some r → r .place ≡ place
+unless-place true number place r e = clash (cc)
+unless-place false number place r e = cc
+
+-- so does the first of two faults at one place
+first-place : (place : ℕ) (a b : Option Refusal) (r : Refusal) → ((q : Refusal) → a ≡ some q → q .place ≡ place) →
+    ((q : Refusal) → b ≡ some q → q .place ≡ place) → first a b ≡ some r → r .place ≡ place
+first-place place none b r h k e = k r e
+first-place place (some q) b r h k e = h r e
+
+-- a record that is refused is the one at fault
+pub refused-place : {kind : ℕ} {s : Place} {m : Mark} {v : List ℕ} {r : Refusal} → turns.After kind s m v (ends (refuses r)) → r .place ≡ s .index
+refused-place {kind} {s = s} {r = r} (turns.bad-head {v = v} e) =
+    let i = s .index in
+    first-place i _ _ r (unless-place (eqb (slot v 0) 1) 3 i)
+    (λ q. first-place i _ _ q (unless-place (eqb (slot v 1) kind) 4 i) (unless-place (few-enough (slot v 2)) 5 i)) e
+refused-place (turns.bad-end n) = refl

@@ -1,0 +1,83 @@
+-- What framing promises: its contract leaves one answer, and an answer tells what the rule book's framing comes to. Assumes nothing.
+use mathlib.Core.Path.{_≡_, sym, _∙_, ap}
+use mathlib.Core.Bool.{Bool, true, false}
+use mathlib.Core.List.{List}
+use Prim.Native.Nat.{ℕ, suc, _≤_}
+use native.Mathlib.Omega.{arith}
+use lib.ListN.{getD, drop}
+use Rattle.rules.specs.declared.Place.{Place}
+use Rattle.rules.specs.declared.Layout.{Layout}
+use Rattle.rules.specs.declared.Refusal.{Refusal}
+use Rattle.rules.specs.Refusals.{Judged, gives, refuses, or-else, unless}
+use Rattle.rules.specs.Framing.{start-place, nothing-follows, index-of-end, frame-records, frame}
+use Rattle.rules.proofs.Cases.{clash, by-judged}
+use Rattle.rules.proofs.FramingTurns as turns
+use Rattle.framing.specs.declared.FrameAnswer.{FrameAnswer}
+use Rattle.framing.specs.declared.FrameAnswer.the-variants.{Framed, Refused}
+use Rattle.framing.specs.declared.TasksAnswer.{TasksAnswer}
+use Rattle.framing.specs.declared.TasksAnswer.the-variants as tasks-case
+use Rattle.framing.specs.Frames.{BehindTasks, TasksFramed, frame-answer}
+use Rattle.framing.specs.SetRead.{tasks-offset}
+use Rattle.framing.proofs.FromPlace.{listed-from, refused-from}
+
+-- two results that meet the contract of `frame` are equal
+pub one-answer : (kind : ℕ) (bytes : List ℕ) (r q : FrameAnswer) → r ≡ frame-answer (frame kind bytes) → q ≡ frame-answer (frame kind bytes) → r ≡ q
+one-answer kind bytes r q e f = e ∙ sym f
+
+-- what is framed has that layout, and what is refused that refusal
+pub framed-is : (z : Judged Layout) (l : Layout) → Framed l ≡ frame-answer z → z ≡ gives l
+framed-is (gives k) l e = let same : l ≡ k = cc in ap gives (sym same)
+framed-is (refuses q) l e = clash (cc)
+
+pub refused-is : (z : Judged Layout) (r : Refusal) → Refused r ≡ frame-answer z → z ≡ refuses r
+refused-is (gives k) r e = clash (cc)
+refused-is (refuses q) r e = let same : r ≡ q = cc in ap refuses (sym same)
+
+-- the place behind n tasks
+abbrev behind : ℕ → Place
+behind n = record { index = suc n; offset = tasks-offset n; rank = 2; due = 0; tasks = n; listed = 0; inversions = 0 }
+
+-- the place behind the tasks is told by the image
+place-told : (bytes : List ℕ) (s : Place) → BehindTasks bytes s → s ≡ behind (getD bytes 4 0)
+place-told bytes s b =
+    let known : record {
+      index = s .index;
+      offset = s .offset;
+      rank = s .rank;
+      due = s .due;
+      tasks = s .tasks;
+      listed = s .listed;
+      inversions = s .inversions;
+    } ≡ behind (getD bytes 4 0) = rw (b .index, b .offset, b .rank, b .due, b .listed, b .inversions, b .tasks) in
+    known
+
+-- bytes that follow EN are refused at its place
+followed-place : (c : Bool) (number place : ℕ) (l : Layout) (r : Refusal) → or-else (unless c number place) (gives l) ≡ refuses r → r .place ≡ place
+followed-place true number place l r e = clash (cc)
+followed-place false number place l r e = cc
+
+-- framing from there on refuses no task
+not-both : (kind : ℕ) (bytes : List ℕ) (s : Place) (r : Refusal) → TasksFramed kind bytes (tasks-case.Framed s) →
+    TasksFramed kind bytes (tasks-case.Refused r) → ⊥
+unfolding TasksFramed
+not-both kind bytes s r a b =
+    let late : suc (getD bytes 4 0) ≤ s .index = omega (arith, a .1 .index, a .1 .tasks) in
+    let f = turns.frames kind s (drop (s .offset) bytes) in
+    by-judged (frame-records kind start-place bytes)
+    (λ l u.
+    let here = followed-place (nothing-follows bytes l) 10 (index-of-end l) l r (rw u at (b .0)) in
+    omega (arith, b .1, here, late, a .1 .index, listed-from f l (sym (a .0 .same) ∙ u) (omega (arith, a .1 .rank)) .0))
+    (λ q u.
+    let same : _≡_ {A = Judged Layout} (refuses q) (refuses r) = rw u at (b .0) in
+    omega (arith, b .1, late, refused-from f r (sym (a .0 .same) ∙ u ∙ same)))
+
+-- two results that meet the contract of `frame_tasks` are equal
+pub one-tasks-answer : (kind : ℕ) (bytes : List ℕ) (r q : TasksAnswer) → TasksFramed kind bytes r → TasksFramed kind bytes q → r ≡ q
+unfolding TasksFramed
+one-tasks-answer kind bytes (tasks-case.Framed s) (tasks-case.Framed t) a b = ap tasks-case.Framed (place-told bytes s (a .1) ∙ sym (place-told bytes t (b .1)))
+one-tasks-answer kind bytes (tasks-case.Framed s) (tasks-case.Refused r) a b = absurd (not-both kind bytes s r a b)
+one-tasks-answer kind bytes (tasks-case.Refused r) (tasks-case.Framed s) a b = absurd (not-both kind bytes s r b a)
+one-tasks-answer kind bytes (tasks-case.Refused r) (tasks-case.Refused q) a b =
+    let e : _≡_ {A = Judged Layout} (refuses r) (refuses q) = sym (a .0) ∙ b .0 in
+    let same : r ≡ q = cc in
+    ap tasks-case.Refused same

@@ -1,0 +1,146 @@
+-- One step of framing: the tests of a record in their order, and a turn of framing a whole image. Assumes nothing.
+use mathlib.Core.Path.{_≡_, refl, sym, _∙_, ap, ap₂}
+use mathlib.Core.Bool.{true, false}
+use mathlib.Core.List.{List, [], _∷_}
+use mathlib.Core.Option.{none, some}
+use Prim.Native.Nat.{ℕ, zero, suc, _+_, _-_, _≤_, _<_}
+use native.Mathlib.Nat.{add-zero}
+use native.Mathlib.Omega.{arith}
+use borrow.Author.Tests.{le-leb, lt-leb}
+use lib.ListN.{length, getD, getElem?, drop, length-drop}
+use lib.Seq.{drop-drop, getD-drop}
+use Rattle.rules.specs.declared.Place.{Place}
+use Rattle.rules.specs.declared.Layout.{Layout}
+use Rattle.rules.specs.declared.Refusal.{Refusal}
+use Rattle.rules.specs.Refusals.{gives, refuses, refusal}
+use Rattle.rules.specs.Marks.{EN, row, marks, size, mark-in, values}
+use Rattle.rules.specs.Framing.{may-follow, if-allowed, mark-at, frame-records, index-of-end, start-place, frame}
+use Rattle.rules.proofs.Cases.{both-true}
+use Rattle.rules.proofs.FramingTurns as turns
+use Rattle.framing.specs.declared.Step.{Step}
+use Rattle.framing.specs.declared.Step.the-variants.{GoesOn, Ended, Refused}
+use Rattle.framing.specs.declared.FrameAnswer.the-variants as frame-case
+use Rattle.images.specs.Table.{mark-of, found-at}
+use Rattle.framing.specs.Allowed.{kind-at, allowed-at}
+use Rattle.framing.specs.Frames.{Whole, Follows, Steps, Reached, frame-answer}
+use Rattle.framing.proofs.PlaceLaws.{placed-after, end-index, refused-place}
+
+-- what a place inside a list has is found there
+found-inside : {A : Type 0} (xs : List A) (k : ℕ) (d : A) → k < length xs → getElem? xs k ≡ some (getD xs k d)
+found-inside [] k d h = absurd (omega arith)
+found-inside (x ∷ xs) zero d h = refl
+found-inside (x ∷ xs) (suc k) d h = found-inside xs k d (omega arith)
+
+-- a whole record, where the place of its mark in the table is told
+pub whole-as : (bytes : List ℕ) (s : Place) (k j : ℕ) → k ≡ j → Whole bytes s k → Whole bytes s j
+whole-as bytes s k j e w = rw (← e) w
+
+-- the two bytes at a place are those of the table's mark k, which may stand there
+pub record MarkedAt (kind : ℕ) (bytes : List ℕ) (s : Place) (k : ℕ) : Type 0 where
+  pub two : 2 ≤ length bytes - s .offset
+  pub found : found-at k ≡ mark-in marks (getD bytes (s .offset) 0) (getD bytes (s .offset + 1) 0)
+  pub inside : k < 6
+  pub may : allowed-at kind (s .rank) k ≡ true
+
+-- what one record comes to, by the tests in their order
+module _ (kind : ℕ) (bytes : List ℕ) (s : Place) where
+  abbrev rest : List ℕ
+  rest = drop (s .offset) bytes
+
+  pub too-short : length bytes - s .offset < 2 → Steps kind bytes s (Refused (refusal 1 (s .index)))
+  unfolding Steps
+  too-short h = (turns.frame-too-short kind s rest (omega (arith, length-drop (s .offset) bytes)), refl)
+
+  module _ (k : ℕ) where
+    module _ (two : 2 ≤ length bytes - s .offset) (found : found-at k ≡ mark-in marks (getD bytes (s .offset) 0) (getD bytes (s .offset + 1) 0)) where
+      mark-is : mark-at kind s rest ≡ if-allowed kind s (found-at k)
+      mark-is =
+          let first : getD rest 0 0 ≡ getD bytes (s .offset) 0 = rw (getD-drop (s .offset) bytes 0 0, add-zero) in
+          ap₂ (λ (a b : ℕ). if-allowed kind s (mark-in marks a b)) first (getD-drop (s .offset) bytes 1 0) ∙ ap (if-allowed kind s) (sym found)
+
+      mark-inside : k < 6 → mark-at kind s rest ≡ if-allowed kind s (some (mark-of k))
+      mark-inside h = mark-is ∙ ap (if-allowed kind s) (found-inside marks k EN h)
+
+      refuses-mark : mark-at kind s rest ≡ none → Steps kind bytes s (Refused (refusal 2 (s .index)))
+      unfolding Steps
+      refuses-mark e = (turns.frame-unmarked kind s rest (omega (arith, length-drop (s .offset) bytes)) e, refl)
+
+      pub no-mark : k ≡ 6 → Steps kind bytes s (Refused (refusal 2 (s .index)))
+      no-mark e = refuses-mark (mark-is ∙ ap (λ (i : ℕ). if-allowed kind s (found-at i)) e)
+
+      pub not-allowed : k < 6 → allowed-at kind (s .rank) k ≡ false → Steps kind bytes s (Refused (refusal 2 (s .index)))
+      not-allowed h e = refuses-mark (mark-inside h ∙ rw (e, if-allowed))
+
+    module _ (m : MarkedAt kind bytes s k) where
+      marked : mark-at kind s rest ≡ some (mark-of k)
+      marked = mark-inside (m .two) (m .found) (m .inside) ∙ rw (m .may, if-allowed)
+
+      pub cut-off : length bytes - s .offset < size (mark-of k) → Steps kind bytes s (Refused (refusal 1 (s .index)))
+      unfolding Steps
+      cut-off h = (
+        turns.frame-cut-off kind s rest (mark-of k) (omega (arith, length-drop (s .offset) bytes)) marked (omega (arith, length-drop (s .offset) bytes)),
+        refl,
+      )
+
+      module _ (w : Whole bytes s k) where
+        front : turns.Whole kind s rest (mark-of k)
+        front = record { marked = marked; not-cut = omega (arith, length-drop (s .offset) bytes) }
+
+        its-turn : may-follow (s .rank) (row (mark-of k) .rank) ≡ true
+        its-turn = both-true (kind-at kind k) (may-follow (s .rank) (row (mark-of k) .rank)) (m .may) .1
+
+        behind-mark : (r : Step) → Follows kind bytes s k r → Steps kind bytes s r
+        unfolding Follows Steps
+        behind-mark (GoesOn t) e =
+            let behind = turns.by-after kind s (mark-of k) (values (mark-of k) rest) (sym e) in
+            let at : t .offset ≡ s .offset + size (mark-of k) = turns.moves behind .1 in (
+              placed-after bytes (w .placed) (w .not-cut) its-turn behind,
+              omega arith,
+              turns.frame-goes kind s rest (mark-of k) t front (sym e)
+                  ∙ ap (frame-records kind t) (drop-drop (size (mark-of k)) (s .offset) bytes ∙ ap (λ (i : ℕ). drop i bytes) (sym at)),
+              record { mark = mark-of k; its-turn = its-turn; goes = sym e },
+            )
+        behind-mark (Ended l) e =
+            let last = end-index bytes (w .placed) its-turn (turns.by-after kind s (mark-of k) (values (mark-of k) rest) (sym e)) in
+            (turns.frame-stops kind s rest (mark-of k) (gives l) front (sym e), last .0, last .1)
+        behind-mark (Refused r) e = (
+          turns.frame-stops kind s rest (mark-of k) (refuses r) front (sym e),
+          refused-place (turns.by-after kind s (mark-of k) (values (mark-of k) rest) (sym e)),
+        )
+
+        pub stepped : (j : ℕ) → k ≡ j → (r : Step) → Follows kind bytes s j r → Steps kind bytes s r
+        stepped j e r f = behind-mark r (rw e f)
+
+-- a turn of framing: what has come so far, with what one record comes to
+module _ (kind : ℕ) (bytes : List ℕ) (s : Place) (r : Step) (steps : Steps kind bytes s r) where
+  pub goes-further : (t : Place) → r ≡ GoesOn t → Steps kind bytes s (GoesOn t)
+  goes-further t e = rw e at steps
+
+  module _ (re : Reached kind bytes s) where
+    -- the place behind the record is reached
+    pub reached : (t : Place) → r ≡ GoesOn t → Reached kind bytes t
+    unfolding Steps
+    reached t e = let f = goes-further t e in record { placed = f .0; same = re .same ∙ f .2 }
+
+    -- a refusal of the record is the image's
+    pub refused-frame : (q : Refusal) → r ≡ Refused q → frame kind bytes ≡ refuses q
+    unfolding Steps
+    refused-frame q e = let z : frame-records kind start-place bytes ≡ refuses q = re .same ∙ ((rw e at steps) .0) in rw z
+
+    pub refused : (q : Refusal) → r ≡ Refused q → frame-case.Refused q ≡ frame-answer (frame kind bytes)
+    refused q e = sym (ap frame-answer (refused-frame q e))
+
+    module _ (l : Layout) (ended : r ≡ Ended l) where
+      layout-is : frame-records kind start-place bytes ≡ gives l
+      unfolding Steps
+      layout-is = re .same ∙ ((rw ended at steps) .0)
+
+      end-is : index-of-end l ≡ s .index
+      unfolding Steps
+      end-is = (rw ended at steps) .1
+
+      pub followed : l .ended < length bytes → frame-case.Refused (refusal 10 (s .index)) ≡ frame-answer (frame kind bytes)
+      followed h = rw (layout-is, lt-leb (length bytes) (l .ended) h, end-is)
+
+      pub framed : length bytes ≤ l .ended → frame-case.Framed l ≡ frame-answer (frame kind bytes)
+      framed h = rw (layout-is, le-leb (length bytes) (l .ended) h)

@@ -1,0 +1,85 @@
+-- What framing's functions answer, in the rule book's terms. Assumes nothing.
+use mathlib.Core.Path.{_≡_}
+use mathlib.Core.Bool.{true}
+use mathlib.Core.List.{List}
+use Prim.Native.Nat.{ℕ, suc, _+_, _≤_, _<_}
+use lib.ListN.{length, getD, drop}
+use Rattle.rules.specs.declared.Place.{Place}
+use Rattle.rules.specs.declared.Layout.{Layout}
+use Rattle.rules.specs.Refusals.{Judged, gives, refuses}
+use Rattle.rules.specs.Tasks.{limits}
+use Rattle.rules.specs.Marks.{Mark, row, size, values}
+use Rattle.rules.specs.Framing.{Next, goes-on, ends, may-follow, after, start-place, frame-records, index-of-end, frame}
+use Rattle.images.specs.Table.{mark-of}
+use Rattle.framing.specs.declared.Step.{Step}
+use Rattle.framing.specs.declared.Step.the-variants as step-case
+use Rattle.framing.specs.declared.FrameAnswer.{FrameAnswer}
+use Rattle.framing.specs.declared.FrameAnswer.the-variants as frame-case
+use Rattle.framing.specs.declared.TasksAnswer.{TasksAnswer}
+use Rattle.framing.specs.declared.TasksAnswer.the-variants as tasks-case
+use Rattle.framing.specs.SetRead.{tasks-offset}
+
+-- a place in an image: inside it, and no more records before it than bytes; what is counted adds up to its index, in three stages: before TS, where TK
+-- records are due, and behind them
+pub record Placed (bytes : List ℕ) (s : Place) : Type 0 where
+  pub inside : s .offset ≤ length bytes
+  pub few : s .index ≤ s .offset
+  pub few-listed : s .listed + s .inversions ≤ s .index
+  pub before-head : s .rank ≡ 0 → s .index ≡ 0
+  pub tasks-due : s .rank ≡ 1 → (1 ≤ s .due) × (s .index + s .due ≡ suc (s .tasks))
+  pub behind-tasks : 2 ≤ s .rank → s .index ≡ suc (s .tasks + (s .listed + s .inversions))
+
+-- a whole record of the table's mark k at the place
+pub record Whole (bytes : List ℕ) (s : Place) (k : ℕ) : Type 0 where
+  pub placed : Placed bytes s
+  pub not-cut : s .offset + size (mark-of k) ≤ length bytes
+
+-- what framing does behind a record
+abbrev pub next-in : Step → Next
+next-in (step-case.GoesOn t) = goes-on t
+next-in (step-case.Ended l) = ends (gives l)
+next-in (step-case.Refused r) = ends (refuses r)
+
+unfoldable pub Follows : ℕ → List ℕ → Place → ℕ → Step → Type 0
+Follows kind bytes s k r = next-in r ≡ after kind s (mark-of k) (values (mark-of k) (drop (s .offset) bytes))
+
+-- a record in its turn, which framing passes from one place to the next
+pub record Passes (kind : ℕ) (bytes : List ℕ) (s t : Place) : Type 0 where
+  pub mark : Mark
+  pub its-turn : may-follow (s .rank) (row mark .rank) ≡ true
+  pub goes : after kind s mark (values mark (drop (s .offset) bytes)) ≡ goes-on t
+
+-- a record moves framing to a later place from which it comes to the same; or framing comes to this: EN behind the tasks, or a refusal of this record
+unfoldable pub Steps : ℕ → List ℕ → Place → Step → Type 0
+Steps kind bytes s (step-case.GoesOn t) =
+    Placed bytes t × (s .offset < t .offset) × (frame-records kind s (drop (s .offset) bytes) ≡ frame-records kind t (drop (t .offset) bytes))
+    × Passes kind bytes s t
+Steps kind bytes s (step-case.Ended l) =
+    (frame-records kind s (drop (s .offset) bytes) ≡ gives l) × (index-of-end l ≡ s .index) × (2 ≤ s .rank)
+Steps kind bytes s (step-case.Refused r) = (frame-records kind s (drop (s .offset) bytes) ≡ refuses r) × (r .place ≡ s .index)
+
+-- a place that framing comes to: from here on it comes to what it comes to from the start
+pub record Reached (kind : ℕ) (bytes : List ℕ) (s : Place) : Type 0 where
+  pub placed : Placed bytes s
+  pub same : frame-records kind start-place bytes ≡ frame-records kind s (drop (s .offset) bytes)
+
+-- the place behind TS and the tasks that it announces
+pub record BehindTasks (bytes : List ℕ) (s : Place) : Type 0 where
+  pub rank : s .rank ≡ 2
+  pub due : s .due ≡ 0
+  pub listed : s .listed ≡ 0
+  pub inversions : s .inversions ≡ 0
+  pub tasks : s .tasks ≡ getD bytes 4 0
+  pub some : 1 ≤ s .tasks
+  pub few : s .tasks ≤ limits .tasks
+  pub index : s .index ≡ suc (s .tasks)
+  pub offset : s .offset ≡ tasks-offset (s .tasks)
+
+-- framing of TS and the tasks comes to the place behind them, or the image is refused at one of these records
+unfoldable pub TasksFramed : ℕ → List ℕ → TasksAnswer → Type 0
+TasksFramed kind bytes (tasks-case.Framed s) = Reached kind bytes s × BehindTasks bytes s
+TasksFramed kind bytes (tasks-case.Refused r) = (frame kind bytes ≡ refuses r) × (r .place ≤ getD bytes 4 0)
+
+abbrev pub frame-answer : Judged Layout → FrameAnswer
+frame-answer (gives l) = frame-case.Framed l
+frame-answer (refuses r) = frame-case.Refused r

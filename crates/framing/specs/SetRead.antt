@@ -1,0 +1,23 @@
+-- The set of an image whose tasks are framed: its TK records stand one after the other behind TS. Assumes nothing.
+use mathlib.Core.List.{List, [], _∷_, _++_}
+use Prim.Native.Nat.{ℕ, zero, suc, _+_, _-_, _*_}
+use lib.ListN.{replicate}
+use Rattle.rules.specs.declared.Task.{Task}
+use Rattle.rules.specs.declared.TaskSet.{TaskSet}
+use Rattle.rules.specs.Tasks.{limits}
+use Rattle.rules.specs.Marks.{TS, TK, size, body-length}
+use Rattle.rules.specs.Dispatcher.{zero-task}
+use Rattle.images.specs.Bodies.{part-of, task-of}
+
+-- the byte behind TS and n TK records
+abbrev pub tasks-offset : ℕ → ℕ
+tasks-offset n = size TS + n * size TK
+
+-- so many tasks read from TK records that stand one after the other
+unfoldable pub tasks-at : List ℕ → ℕ → ℕ → List Task
+tasks-at bytes at zero = []
+tasks-at bytes at (suc many) = task-of (part-of bytes (at + 2) (body-length TK)) ∷ tasks-at bytes (at + size TK) many
+
+-- a set read behind TS: the slots behind its tasks are zero
+unfoldable pub set-read : ℕ → List ℕ → TaskSet
+set-read n bytes = record { n = n; tasks = tasks-at bytes (size TS) n ++ replicate (limits .tasks - n) zero-task }
