@@ -8,28 +8,31 @@ use native.Mathlib.Numerals.{add-one}
 use lib.Dec.{ltb, leb}
 use lib.ListN.{length, getD, take, length-take}
 use lib.Seq.{getD-take}
-use borrow.Author.Tests.{leb-true, leb-false, le-leb, lt-leb}
+use borrow.Author.Tests.{lt-ltb, le-ltb, ltb-false, leb-true, leb-false, le-leb, lt-leb}
 use Rattle.fields.specs.Body.{head₀, tail₀}
 use Rattle.rules.specs.declared.Task.{Task}
 use Rattle.rules.specs.declared.Entry.{Entry}
-use Rattle.rules.specs.Tasks.{task, jobs, no-task, KeepsItsRule}
+use Rattle.rules.specs.Tasks.{task, release, no-task, KeepsItsRule}
 use Rattle.rules.specs.Setting.{instant}
-use Rattle.rules.specs.Priority.{slot, start-job, least-release, is-left, waiting, by-priority, setting-of}
+use Rattle.rules.specs.Priority.{slot, start-job, least-release, waiting, by-priority, setting-of}
 use Rattle.rules.specs.Irregularities.{runs, forced-idles}
-use Rattle.rules.proofs.Cases.{by-bool, differ}
+use Rattle.rules.proofs.Cases.{by-bool, by-le, differ}
 use Rattle.rules.proofs.PriorityLaws.{StartKeepsRules, least-below}
 use Rattle.rules.proofs.ForcedIdle.{released-in-cycle, no-gap, whole-gap}
 use Rattle.rules.proofs.Inversions.{lower-waits, not-run, next-waits}
-use Rattle.timetables.specs.Walks.{never, next-releases}
-use Rattle.timetables.specs.Instants.{least-of, some-by}
-use Rattle.timetables.proofs.Releases.{releases-length, release-in-slot}
+use Rattle.timetables.specs.Walks.{next-releases}
+use Rattle.timetables.specs.Instants.{never, least-of, some-by}
+use Rattle.timetables.proofs.Releases.{LeftByRelease, releases-length, release-in-slot}
 
 -- the least of next releases, or the end of the cycle where it comes first
-least-next : (h : ℕ) (ts : List Task) (x : List ℕ) → h ≤ never → min h (least-of (next-releases h ts x)) ≡ least-release h ts x
-least-next h [] x le = omega arith
-least-next h (t ∷ ts) x le =
-    let later = least-next h ts (tail₀ x) le in
-    by-bool (ltb (head₀ x) (jobs h t)) (λ b. rw (b, least-release) (omega arith)) (λ b. rw (b, least-release) (omega arith))
+least-next : (h : ℕ) (ts : List Task) (x : List ℕ) → h ≤ never → LeftByRelease h ts → min h (least-of (next-releases ts x)) ≡ least-release h ts x
+least-next h [] x le left = omega arith
+least-next h (t ∷ ts) x le left =
+    let later = least-next h ts (tail₀ x) le (λ i l k. left (suc i) (omega arith) k) in
+    let same = left 0 (omega arith) (head₀ x) in
+    by-bool (ltb (release t (head₀ x)) h)
+    (λ b. rw (same, b, least-release) (omega arith))
+    (λ b. rw (same, b, least-release) (omega (arith, ltb-false (release t (head₀ x)) h b)))
 
 -- the least of one instant more
 pub least-more : (rs : List ℕ) (i : ℕ) → i < length rs → least-of (take (i + 1) rs) ≡ min (least-of (take i rs)) (getD rs i 0)
@@ -39,6 +42,19 @@ least-more rs i l = ap (λ (k : ℕ). least-of (take k rs)) (add-one i) ∙ leas
     least-suc [] k h = absurd (omega arith)
     least-suc (u ∷ us) zero h = omega arith
     least-suc (u ∷ us) (suc k) h = omega (arith, least-suc us k (omega arith))
+
+-- the least of instants is not above any of them
+pub least-not-above : (rs : List ℕ) (n i : ℕ) → i < n → i < length rs → least-of (take n rs) ≤ getD rs i 0
+least-not-above [] n i a l = absurd (omega arith)
+least-not-above (r ∷ rs) zero i a l = absurd (omega arith)
+least-not-above (r ∷ rs) (suc n) zero a l = omega arith
+least-not-above (r ∷ rs) (suc n) (suc i) a l = omega (arith, least-not-above rs n i (omega arith) (omega arith))
+
+-- behind a free instant the least alone decides
+pub later-least : (f r s : ℕ) → f < s → ltb (max f r) s ≡ ltb r s
+later-least f r s l =
+    by-le s r (λ a. let b : s ≤ max f r = omega arith in rw (le-ltb (max f r) s b, le-ltb r s a))
+    (λ a. let b : max f r < s = omega arith in rw (lt-ltb (max f r) s b, lt-ltb r s a))
 
 -- where none of the first has come, nor the next, none of one more has
 pub none-more : (s : ℕ) (rs : List ℕ) (i : ℕ) → i < length rs → some-by s (take i rs) ≡ false → s < getD rs i 0 → some-by s (take (i + 1) rs) ≡ false
@@ -68,35 +84,37 @@ some-in s rs i k lt l come =
     by-bool (some-by s (take i rs)) (λ b. b)
     (λ b. absurd (omega (arith, none-found s (take i rs) b k (omega (arith, length-take i rs)), getD-take i rs k 0 lt)))
 
-module _ (ts : List Task) (h : ℕ) (x : List ℕ) where
-  -- a task whose next release has come is waiting, and no other
-  waits-by : (s i : ℕ) → s < never → i < length ts → waiting ts h x s i ≡ leb (getD (next-releases h ts x) i 0) s
+module _ (ts : List Task) (h : ℕ) (x : List ℕ) (left : LeftByRelease h ts) where
+  -- a task whose next release has come in the cycle is waiting, and no other
+  waits-by : (s i : ℕ) → s < h → i < length ts → waiting ts h x s i ≡ leb (getD (next-releases ts x) i 0) s
   waits-by s i lt a-task =
-      rw (release-in-slot h ts x i no-task a-task)
-      (by-bool (is-left ts h x i) (λ b. rw b) (λ b. rw b (sym (lt-leb never s lt))))
+      let same = left i a-task (slot x i) in
+      rw (release-in-slot ts x i no-task a-task, same)
+      (by-bool (ltb (release (task ts i) (slot x i)) h) (λ b. rw b)
+      (λ b. rw b (sym (lt-leb (release (task ts i) (slot x i)) s (omega (arith, ltb-false (release (task ts i) (slot x i)) h b))))))
 
   -- the instant of decision, where a job is left
-  pub instant-is : (f : ℕ) → h ≤ never → least-release h ts x < h → max f (least-of (next-releases h ts x)) ≡ instant (setting-of ts h) x f
-  instant-is f le lt = omega (arith, least-next h ts x le)
+  pub instant-is : (f : ℕ) → h ≤ never → least-release h ts x < h → max f (least-of (next-releases ts x)) ≡ instant (setting-of ts h) x f
+  instant-is f le lt = omega (arith, least-next h ts x le left)
 
-  module _ (s i : ℕ) (lt : s < never) (a-task : i < length ts) where
+  module _ (s i : ℕ) (lt : s < h) (a-task : i < length ts) where
     -- where a lower task's release has come, the baseline does not run the task
-    pub lower-inverts : some-by s (take i (next-releases h ts x)) ≡ true → runs (by-priority ts h x s) i ≡ false
+    pub lower-inverts : some-by s (take i (next-releases ts x)) ≡ true → runs (by-priority ts h x s) i ≡ false
     lower-inverts e =
-        let f = some-found s (take i (next-releases h ts x)) e in
-        let lo : f .0 < i = omega (arith, f .1, length-take i (next-releases h ts x)) in
-        let by = rw (getD-take i (next-releases h ts x) (f .0) 0 lo) at (f .2) in
+        let f = some-found s (take i (next-releases ts x)) e in
+        let lo : f .0 < i = omega (arith, f .1, length-take i (next-releases ts x)) in
+        let by = rw (getD-take i (next-releases ts x) (f .0) 0 lo) at (f .2) in
         not-run ts h x s i a-task (f .0) lo (waits-by s (f .0) lt (omega arith) ∙ le-leb _ s by)
 
     -- where none has, it runs the task if that waits
-    pub none-lower-runs : waiting ts h x s i ≡ true → some-by s (take i (next-releases h ts x)) ≡ false → runs (by-priority ts h x s) i ≡ true
+    pub none-lower-runs : waiting ts h x s i ≡ true → some-by s (take i (next-releases ts x)) ≡ false → runs (by-priority ts h x s) i ≡ true
     none-lower-runs w e =
         by-bool (runs (by-priority ts h x s) i) (λ b. b)
         (λ b.
         let l = lower-waits ts h x s i a-task w b in
         let by = leb-true _ s (sym (waits-by s (l .0) lt (omega (arith, l .1))) ∙ l .2) in
-        let past = none-found s (take i (next-releases h ts x)) e (l .0) (omega (arith, l .1, length-take i (next-releases h ts x), releases-length h ts x)) in
-        absurd (omega (arith, l .1, getD-take i (next-releases h ts x) (l .0) 0 (l .1))))
+        let past = none-found s (take i (next-releases ts x)) e (l .0) (omega (arith, l .1, length-take i (next-releases ts x), releases-length ts x)) in
+        absurd (omega (arith, l .1, getD-take i (next-releases ts x) (l .0) 0 (l .1))))
 
 module _ (ts : List Task) (h : ℕ) {x : List ℕ} {f : ℕ} (e : Entry) (σ : List Entry) (keeps : StartKeepsRules ts h x f (e .task) (e .start)) where
   -- a job is left before an entry

@@ -1,28 +1,31 @@
--- What whoever checks a timetable image or derives its tables can rely on, from the contracts alone: one result; Accepted for exactly the images of a good
--- set and a valid timetable; and the image of exactly its irregularities at the front of the output. Assumes nothing.
-use mathlib.Core.Path.{_≡_, refl, sym, _∙_, ap}
+-- What whoever checks a timetable image can rely on, from the contracts alone: one answer; and Accepted for exactly the images of a good set and a
+-- valid timetable. And judging comes to one result. Assumes nothing.
+use mathlib.Core.Path.{_≡_, sym, _∙_, ap}
 use mathlib.Core.Logic.{_↔_}
-use mathlib.Core.List.{List, _++_}
-use Prim.Native.Nat.{ℕ, _≤_}
-use lib.ListN.{length, take, drop}
-use borrow.Author.Tests.{le-leb}
+use mathlib.Core.Bool.{Bool}
+use mathlib.Core.List.{List}
+use Prim.Native.Nat.{ℕ}
+use native.Mathlib.Omega.{arith}
+use lib.ListN.{length}
+use lib.Seq.{ext-getD}
 use Rattle.fields.specs.Number.{Bytes}
 use Rattle.rules.specs.declared.Task.{Task}
 use Rattle.rules.specs.declared.Entry.{Entry}
 use Rattle.rules.specs.declared.Refusal.{Refusal}
 use Rattle.rules.specs.declared.CheckAnswer.{CheckAnswer}
 use Rattle.rules.specs.declared.CheckAnswer.the-variants.{Accepted}
-use Rattle.rules.specs.declared.MakeAnswer.{MakeAnswer}
-use Rattle.rules.specs.declared.MakeAnswer.the-variants.{Made, Refused}
-use Rattle.rules.specs.Refusals.{Judged, gives, refuses}
-use Rattle.rules.specs.Setting.{Tables}
+use Rattle.rules.specs.Refusals.{gives, refuses}
 use Rattle.rules.specs.Judging.{tables}
-use Rattle.rules.specs.Image.{table-image}
-use Rattle.rules.specs.Operations.{check-timetable, into, derived-image, make-answer, output-after, derive, derive-output}
-use Rattle.rules.specs.Promised.{TimetableImage, HasTables}
-use Rattle.rules.proofs.Cases.{clash}
-use Rattle.rules.proofs.HasTables.{derived-tables, one-table}
-use Rattle.rules.proofs.Demand2.{accepts-timetable, derives-image, derive-made}
+use Rattle.rules.specs.Operations.{Timed, derived, check-timetable}
+use Rattle.rules.specs.Promised.{TimetableImage}
+use Rattle.rules.proofs.Cases.{by-bool, by-nat, clash, gives-in}
+use Rattle.rules.proofs.Demand2.{accepts-timetable}
+use Rattle.framing.specs.SetRead.{tasks-offset, set-read}
+use Rattle.timetables.specs.declared.Counts.{Counts}
+use Rattle.timetables.specs.declared.Timetable.{Timetable}
+use Rattle.timetables.specs.Counted.{Counted}
+use Rattle.timetables.specs.Judged.{tasks-of, entries-behind, refused-with, Good, JudgedAs}
+use Rattle.timetables.proofs.EntriesRead.{entries-length}
 
 -- the contract of `check` leaves one answer
 pub one-answer : (bytes : List ℕ) (r q : CheckAnswer) → r ≡ check-timetable bytes → q ≡ check-timetable bytes → r ≡ q
@@ -35,41 +38,74 @@ accepted-exactly bytes b r e =
     let exactly = accepts-timetable bytes b in
     (λ a. exactly .0 (sym e ∙ a), λ w. e ∙ exactly .1 w)
 
--- the contract of `derive`
-abbrev Derives : List ℕ → List ℕ → MakeAnswer → List ℕ → Type 0
-Derives bytes old r out = (r ≡ derive bytes old) × (out ≡ derive-output bytes old)
+-- counts of one timetable are the same
+counts-same : {ts : List Task} {h : ℕ} {τ : List Entry} (c d : Counts) → Counted ts h τ c → Counted ts h τ d → c ≡ d
+counts-same c d a b =
+    let idles : c .idles ≡ d .idles = a .idles ∙ sym (b .idles) in
+    let inversions : c .inversions ≡ d .inversions = a .inversions ∙ sym (b .inversions) in
+    let each : c .each ≡ d .each = ext-getD 0 (c .each) (d .each) (a .slots ∙ sym (b .slots)) (λ i l. a .each i ∙ sym (b .each i)) in
+    λ i. record { idles = idles i; inversions = inversions i; each = each i }
 
--- it leaves one answer and one output
-pub one-result : (bytes old : List ℕ) (r q : MakeAnswer) (out other : List ℕ) → Derives bytes old r out → Derives bytes old q other → (r ≡ q) × (out ≡ other)
-one-result bytes old r q out other met also = (met .0 ∙ sym (also .0), met .1 ∙ sym (also .1))
+-- what is judged good is told by the image
+module _ {bytes : List ℕ} {count : Bool} {t u : Timetable} (g : Good bytes count t) (k : Good bytes count u) where
+  -- what the image holds
+  abbrev held : Timetable → Timed
+  held v = record { tasks = tasks-of (v .set); entries = entries-behind bytes (v .set) (v .listed) }
 
--- a refusal answered leaves the output as it was
-kept : (z : Judged (List ℕ)) (old : List ℕ) (q : Refusal) → make-answer z ≡ Refused q → output-after z old ≡ old
-kept (gives result) old q e = clash (cc)
-kept (refuses r) old q e = refl
+  -- is the same
+  same-held : held t ≡ held u
+  same-held = gives-in (held t) (held u) (sym (g .read) ∙ k .read)
 
-module _ (bytes old : List ℕ) (r : MakeAnswer) (out : List ℕ) (met : Derives bytes old r out) where
-  -- on a refusal all bytes of the output keep their values
-  pub refused-keeps : (q : Refusal) → r ≡ Refused q → out ≡ old
-  unfolding derive derive-output
-  refused-keeps q e = met .1 ∙ kept (derived-image (length old) bytes) old q (sym (met .0) ∙ e)
+  -- so the set is the same
+  same-set : t .set ≡ u .set
+  same-set =
+      let n : t .set .n ≡ u .set .n = omega (arith, g .tasks-many, k .tasks-many, ap (λ (x : Timed). length (x .tasks)) same-held) in
+      g .set-is ∙ ap (λ (m : ℕ). set-read m bytes) n ∙ sym (k .set-is)
 
-  -- from the image of a timetable, where there is room, the image of exactly its irregularities is written, and later bytes keep their values
-  pub writes-exactly : {ts : List Task} {τ : List Entry} (t : TimetableImage bytes ts τ) (X : Tables) → HasTables ts (t .h) τ X →
-      length (table-image ts X) ≤ length old →
-      (r ≡ Made (length (table-image ts X))) × (out ≡ table-image ts X ++ drop (length (table-image ts X)) old)
-  unfolding derive derive-output
-  writes-exactly {ts} {τ} t X has room =
-      let its-tables : X ≡ tables ts τ = one-table (t .good) (t .valid) has in
-      let given : derived-image (length old) bytes ≡ gives (table-image ts X) =
-      derives-image t (length old)
-      ∙ ap (λ (Y : Tables). into (length old) (table-image ts Y)) (sym its-tables)
-      ∙ rw (le-leb (length (table-image ts X)) (length old) room) in
-      (met .0 ∙ ap make-answer given, met .1 ∙ ap (λ (z : Judged (List ℕ)). output-after z old) given)
+  -- and the number of entries
+  same-listed : t .listed ≡ u .listed
+  same-listed =
+      omega (
+        arith,
+        ap (λ (x : Timed). length (x .entries)) same-held,
+        entries-length bytes (tasks-offset (t .set .n)) (t .listed),
+        entries-length bytes (tasks-offset (u .set .n)) (u .listed),
+      )
 
-  -- and a length is answered only where the bytes are such an image, and those irregularities are what was written
-  pub writes-only : Bytes bytes → (n : ℕ) → r ≡ Made n →
-      (ts : List Task) × (τ : List Entry) × (t : TimetableImage bytes ts τ) × (X : Tables) × HasTables ts (t .h) τ X × (take n out ≡ table-image ts X)
-  writes-only b n e =
-      let w = derive-made bytes old n b (sym (met .0) ∙ e) in
-      (w .0, w .1, w .2, tables (w .0) (w .1), derived-tables (w .2 .good) (w .2 .valid), ap (take n) (met .1) ∙ w .3)
+  -- and the counts
+  same-counts : t .counts ≡ u .counts
+  same-counts =
+      by-bool count
+      (λ c. counts-same (t .counts) (u .counts) (g .counted c)
+      (rw (same-set, same-listed) (k .counted c)))
+      (λ c. g .uncounted c ∙ sym (k .uncounted c))
+
+  -- and all of it
+  good-same : t ≡ u
+  good-same =
+      let r : t .refusal ≡ u .refusal = g .no-refusal ∙ sym (k .no-refusal) in
+      λ i. record { refusal = r i; set = same-set i; listed = same-listed i; counts = same-counts i }
+
+-- what is judged good is not refused
+good-derived : {bytes : List ℕ} {count : Bool} {t : Timetable} → Good bytes count t → (r : Refusal) → derived bytes ≡ refuses r → ⊥
+good-derived {bytes} {count} {t} g r e =
+    let τ = entries-behind bytes (t .set) (t .listed) in
+    let given : derived bytes ≡ gives (record { tasks = tasks-of (t .set); tables = tables (tasks-of (t .set)) τ }) =
+    rw (g .read, g .stand .good, g .no-fault) in
+    let both = sym given ∙ e in
+    clash (cc)
+
+-- the contract of `judge` leaves one result
+pub one-judgement : (bytes : List ℕ) (count : Bool) (t u : Timetable) → JudgedAs bytes count t → JudgedAs bytes count u → t ≡ u
+one-judgement bytes count t u a b =
+    by-nat (t .refusal .number)
+    (λ y. by-nat (u .refusal .number)
+    (λ z. good-same (a .good y) (b .good z))
+    (λ m z. absurd (good-derived (a .good y) (u .refusal) (b .refused (λ q. omega (arith, q, z)) .0))))
+    (λ l y. by-nat (u .refusal .number)
+    (λ z. absurd (good-derived (b .good z) (t .refusal) (a .refused (λ q. omega (arith, q, y)) .0)))
+    (λ m z.
+    let v = a .refused (λ q. omega (arith, q, y)) in
+    let w = b .refused (λ q. omega (arith, q, z)) in
+    let same : t .refusal ≡ u .refusal = (let both = sym (v .0) ∙ w .0 in cc) in
+    v .1 ∙ ap refused-with same ∙ sym (w .1)))

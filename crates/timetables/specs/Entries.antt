@@ -1,13 +1,9 @@
 -- Entries read at their places: SL records one behind the other. Assumes nothing.
 use mathlib.Core.List.{List, [], _∷_}
-use Prim.Native.Nat.{ℕ, zero, suc, _+_, _*_}
+use Prim.Native.Nat.{ℕ, zero, suc, _+_}
 use Rattle.rules.specs.declared.Entry.{Entry}
-use Rattle.rules.specs.Marks.{TS, TK, SL, size, body-length}
+use Rattle.rules.specs.Marks.{SL, size, body-length}
 use Rattle.images.specs.Bodies.{part-of, entry-of}
-
--- the byte offset of the first entry, behind TS and n tasks
-abbrev pub entries-offset : ℕ → ℕ
-entries-offset n = size TS + n * size TK
 
 -- the entry at a byte offset
 abbrev pub entry-in : List ℕ → ℕ → Entry

@@ -4,7 +4,10 @@ use mathlib.Core.List.{List, [], _∷_}
 use Prim.Native.Nat.{ℕ, min}
 use lib.Dec.{leb}
 use Rattle.rules.specs.Timetable.{pick}
-use Rattle.timetables.specs.Walks.{never}
+
+-- an instant that no release comes to
+abbrev pub never : ℕ
+never = 4294967295
 
 -- the least of instants
 abbrev pub least-of : List ℕ → ℕ

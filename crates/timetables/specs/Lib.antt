@@ -1,7 +1,5 @@
 pub mod Walks
-pub mod Entries
-pub mod Judged
-pub mod ByTask
 pub mod Instants
-pub mod Parts
+pub mod Entries
 pub mod Counted
+pub mod Judged

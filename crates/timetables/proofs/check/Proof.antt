@@ -10,12 +10,12 @@ judge-requires c κs = search needs
 returns : tie.Need-returns
 returns c =
     let told = c .before .before .before in
-    refusal-answered _ _ (told .judge .ensures) (c .before .if1 .taken)
+    refusal-answered _ _ _ (told .judge .ensures) (c .before .if1 .taken)
 
 returns-2 : tie.Need-returns-2
 returns-2 c =
     let told = c .before .before in
-    acceptance-answered _ _ (told .judge .ensures) (c .if1 .left)
+    acceptance-answered _ _ _ (told .judge .ensures) (c .if1 .left)
 
 pub check-spec : {M : Type 1} → statement M
 check-spec = tie.close (tie.spec judge-requires returns returns-2)

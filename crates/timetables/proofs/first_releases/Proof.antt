@@ -1,45 +1,36 @@
 -- `timetables::first_releases` meets its contract. The invariant: the array is filled up to i. Assumes nothing.
-use Rattle.timetables.proofs.Releases.{first-in-slot}
-use native.Mathlib.Omega.{arith}
-use Rattle.timetables.proofs.Releases.{firsts-length}
-use Rattle.sets.proofs.Slots.{slots-counted}
-use lib.ListN.{length}
-use mathlib.Core.Path.{_≡_, sym, _∙_}
+use mathlib.Core.Path.{_≡_, sym}
+use mathlib.Core.List.{[]}
 use Prim.Native.Nat.{_-_}
-use Rattle.timetables.specs.Walks.{first-releases}
-use Rattle.timetables.proofs.Filled.{Filled, filled-none, filled-more, filled-all}
+use native.Mathlib.Omega.{arith}
+use lib.ListN.{length}
 use borrow.Author.Needs.{needs}
+use Rattle.sets.proofs.Slots.{slots-counted}
+use Rattle.timetables.specs.Walks.{next-releases}
+use Rattle.timetables.proofs.Releases.{releases-length, first-in-slot}
+use Rattle.timetables.proofs.Filled.{Filled, filled-none, filled-more, filled-all}
 use Rattle.timetables.proofs.first_releases.Statement.{statement}
 use Rattle.timetables.proofs.first_releases.Tie as tie
 
 abbrev Inv-loop : tie.InvT-loop
-Inv-loop jobs s release₀ i₀ release i = Filled (first-releases jobs (s .tasks)) release i
+Inv-loop s release₀ i₀ release i = Filled (next-releases (s .tasks) []) release i
 
 abbrev μ-loop : tie.MeasureT-loop
-μ-loop jobs s release₀ i₀ release i = 16 - i
+μ-loop s release₀ i₀ release i = 16 - i
 
 loop-holds : tie.Need-loop-holds Inv-loop μ-loop
 loop-holds c =
     let slots : length (c .args .t1 .tasks) ≡ 16 = search (needs, slots-counted) in
-    filled-none _ _ (simp firsts-length (omega arith)) (search needs)
-
-mul-first-release : tie.Need-mul-first-release Inv-loop μ-loop
-mul-first-release c = search needs
-
-element-copy-out-first-release : tie.Need-element-copy-out-first-release Inv-loop μ-loop
-element-copy-out-first-release c = search needs
-
-mul-first-release-2 : tie.Need-mul-first-release-2 Inv-loop μ-loop
-mul-first-release-2 c = search needs
-
-element-copy-out-first-release-2 : tie.Need-element-copy-out-first-release-2 Inv-loop μ-loop
-element-copy-out-first-release-2 c = search needs
-
-first-release-requires : tie.Need-first-release-requires Inv-loop μ-loop
-first-release-requires c κs = search needs
+    filled-none _ _ (simp releases-length (omega arith)) (search needs)
 
 mul-release : tie.Need-mul-release Inv-loop μ-loop
 mul-release c = search needs
+
+element-copy-out-release : tie.Need-element-copy-out-release Inv-loop μ-loop
+element-copy-out-release c = search needs
+
+mul-release-2 : tie.Need-mul-release-2 Inv-loop μ-loop
+mul-release-2 c = search needs
 
 array-write-release : tie.Need-array-write-release Inv-loop μ-loop
 array-write-release c = search needs
@@ -52,10 +43,9 @@ loop-less c = search needs
 
 loop-again : tie.Need-loop-again Inv-loop μ-loop
 loop-again c =
-    let at = c .before .before .before .before in
+    let at = c .before in
     let slots : length (at .before .args .t1 .tasks) ≡ 16 = search (needs, slots-counted) in
-    filled-more (at .loop .inv) _ (omega arith)
-    (c .first-release .ensures ∙ sym (first-in-slot (at .before .args .jobs .now) (at .before .args .t1 .tasks) (at .loop .i) _ (omega arith)))
+    filled-more (at .loop .inv) _ (omega arith) (sym (first-in-slot (at .before .args .t1 .tasks) (at .loop .i) _ (omega arith)))
 
 returns : tie.Need-returns Inv-loop μ-loop
 returns c = filled-all (c .before .loop .inv) (omega arith)
@@ -67,12 +57,9 @@ first-releases-spec =
     Inv-loop
     μ-loop
     loop-holds
-    mul-first-release
-    element-copy-out-first-release
-    mul-first-release-2
-    element-copy-out-first-release-2
-    first-release-requires
     mul-release
+    element-copy-out-release
+    mul-release-2
     array-write-release
     add-i
     loop-less

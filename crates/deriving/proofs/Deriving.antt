@@ -1,0 +1,117 @@
+-- Deriving from a timetable image that is judged: the refusal that it was judged with, no room, or the image of its tables. Assumes nothing.
+use mathlib.Core.Path.{_≡_, refl, sym, _∙_, ap, ap₂}
+use mathlib.Core.Bool.{true}
+use mathlib.Core.List.{List, [], _∷_}
+use Prim.Native.Nat.{ℕ, _+_, _*_, _≤_, _<_}
+use native.Mathlib.Omega.{arith}
+use lib.ListN.{length}
+use borrow.Author.Tests.{le-leb, lt-leb}
+use Rattle.rules.specs.declared.Task.{Task}
+use Rattle.rules.specs.declared.Entry.{Entry}
+use Rattle.rules.specs.declared.MakeAnswer.the-variants as make-case
+use Rattle.rules.specs.Refusals.{Judged, gives, refuses, refusal}
+use Rattle.rules.specs.Tasks.{limits, hyperperiod}
+use Rattle.rules.specs.Setting.{Tables}
+use Rattle.rules.specs.Marks.{ID, PV, EN, size}
+use Rattle.rules.specs.Image.{image, record-of, set-records, table-image}
+use Rattle.rules.specs.Operations.{derived, derived-image, make-answer, output-after, into, derive, derive-output}
+use Rattle.rules.proofs.Images.{records-before, table-image-length}
+use Rattle.writing.specs.Writing.{put-at, record-put}
+use Rattle.timetables.specs.declared.Timetable.{Timetable}
+use Rattle.timetables.specs.declared.Counts.{Counts}
+use Rattle.framing.specs.SetRead.{tasks-offset}
+use Rattle.timetables.specs.Judged.{tasks-of, entries-behind, Good, JudgedAs}
+use Rattle.timetables.specs.Counted.{tables-of, Counted}
+use Rattle.deriving.specs.Putting.{EntriesValid, tables-put}
+use Rattle.deriving.proofs.ImagePut.{table-put}
+use Rattle.deriving.proofs.ValidEntries.{few-idles, few-inversions}
+
+-- what an image is refused with is answered, and the output is as it was
+pub refused-so : (bytes old : List ℕ) (t : Timetable) → JudgedAs bytes true t → (t .refusal .number ≡ 0 → ⊥) →
+    (make-case.Refused (t .refusal) ≡ derive bytes old) × (old ≡ derive-output bytes old)
+unfolding derive derive-output
+refused-so bytes old t judged numbered = let e = judged .refused numbered .0 in (rw e, rw e)
+
+module _ (bytes : List ℕ) (t : Timetable) (g : Good bytes true t) where
+  -- the set's tasks
+  abbrev ts : List Task
+  ts = tasks-of (t .set)
+
+  abbrev τ : List Entry
+  τ = entries-behind bytes (t .set) (t .listed)
+
+  -- the entries are those of a valid timetable
+  pub its-entries : EntriesValid bytes (t .set) (hyperperiod ts) (t .listed)
+  its-entries = record { stand = g .stand; no-fault = g .no-fault }
+
+  -- with these tables
+  abbrev X : Tables
+  X = tables-of ts (hyperperiod ts) τ
+
+  -- they are derived
+  derives : derived bytes ≡ gives (record { tasks = ts; tables = X })
+  derives = rw (g .read, g .stand .good, g .no-fault)
+
+  -- and their image is put where there is room
+  image-given : (room : ℕ) → derived-image room bytes ≡ into room (table-image ts X)
+  image-given room = rw derives
+
+  -- they are counted
+  abbrev c : Counts
+  c = t .counts
+
+  -- as many as there are
+  pub counted : Counted ts (hyperperiod ts) τ c
+  counted = g .counted refl
+
+  -- what is counted is few
+  pub few-counted : (c .idles ≤ limits .ticks) × (c .inversions ≤ limits .jobs) × (t .set .n ≤ limits .tasks)
+  few-counted = (
+    omega (arith, counted .idles, few-idles its-entries),
+    omega (arith, counted .inversions, few-inversions its-entries),
+    g .stand .few,
+  )
+
+  -- how long the image of its tables is
+  abbrev long : ℕ
+  long = tasks-offset (t .set .n) + c .idles * size ID + c .inversions * size PV + size EN
+
+  -- so long it is
+  image-long : length (table-image ts X) ≡ long
+  image-long = table-image-length ts X ∙ omega (arith, g .tasks-many, counted .idles, counted .inversions)
+
+  -- an output that is too short is refused, and is as it was
+  pub too-short : (old : List ℕ) (n : ℕ) → n ≡ long → length old < n →
+      (make-case.Refused (refusal 20 0) ≡ derive bytes old) × (old ≡ derive-output bytes old)
+  unfolding derive derive-output
+  too-short old n n-is short =
+      let e : derived-image (length old) bytes ≡ refuses (refusal 20 0) =
+      image-given (length old) ∙ rw (lt-leb (length (table-image ts X)) (length old) (omega (arith, image-long))) in
+      (rw e, rw e)
+
+  module _ (old : List ℕ) (n : ℕ) (n-is : n ≡ long) (room : n ≤ length old) where
+    -- the image is given
+    given : derived-image (length old) bytes ≡ gives (table-image ts X)
+    given = image-given (length old) ∙ rw (le-leb (length (table-image ts X)) (length old) (omega (arith, image-long)))
+
+    -- else the length of the image is answered
+    pub answered : make-case.Made n ≡ derive bytes old
+    unfolding derive
+    answered = ap make-case.Made (n-is ∙ sym image-long) ∙ sym (ap make-answer given)
+
+    -- and the set, the tables and EN put one behind the other are the image at the front of the output, with all other bytes as they were
+    pub put-out : (set-put tables-in end-put : List ℕ) (end before : ℕ) →
+        set-put ≡ put-at old 0 (image (set-records 2 ts)) →
+        tables-in ≡ tables-put set-put (t .set .n) X →
+        end-put ≡ record-put tables-in end (record-of EN (before ∷ [])) →
+        end + size EN ≡ n → before ≡ t .set .n + 1 + c .idles + c .inversions → end-put ≡ derive-output bytes old
+    unfolding derive-output
+    put-out set-put tables-in end-put end before first second third end-is before-is =
+        let here : end ≡ tasks-offset (length ts) + length (X .idles) * size ID + length (X .inversions) * size PV =
+        omega (arith, g .tasks-many, counted .idles, counted .inversions) in
+        let number : before ≡ records-before ts X = omega (arith, g .tasks-many, counted .idles, counted .inversions) in
+        let behind : tables-in ≡ tables-put (put-at old 0 (image (set-records 2 ts))) (length ts) X =
+        second ∙ ap₂ (λ (o : List ℕ) (k : ℕ). tables-put o k X) first (sym (g .tasks-many)) in
+        third
+        ∙ rw (here, number, behind) (table-put ts X old (omega (arith, image-long)))
+        ∙ sym (ap (λ (z : Judged (List ℕ)). output-after z old) given)

@@ -1,0 +1,9 @@
+pub mod ByTask
+pub mod Parts
+pub mod TablesPut
+pub mod ImagePut
+pub mod ValidTurns
+pub mod ValidEntries
+pub mod Putting
+pub mod Deriving
+pub mod Promises

@@ -1,0 +1,83 @@
+-- A turn of the walk through a valid timetable: the walk at an entry, and that its entry keeps the rules. Assumes nothing.
+use mathlib.Core.Path.{_≡_, sym, _∙_, ap, subst}
+use mathlib.Core.List.{List, _∷_}
+use Prim.Native.Nat.{ℕ, _+_, _-_, _≤_, _<_}
+use native.Mathlib.Nat.{div-le-self}
+use native.Mathlib.Omega.{arith}
+use lib.ListN.{length, getD, set}
+use Rattle.rules.specs.declared.Task.{Task}
+use Rattle.rules.specs.declared.TaskSet.{TaskSet}
+use Rattle.rules.specs.declared.Entry.{Entry}
+use Rattle.rules.specs.Tasks.{limits, task}
+use Rattle.rules.specs.Setting.{Setting}
+use Rattle.rules.specs.Priority.{slot, start-job, setting-of}
+use Rattle.rules.specs.Marks.{SL, size}
+use Rattle.rules.proofs.Theory.{ValidFrom, entry}
+use Rattle.rules.proofs.PriorityLaws.{StartKeepsRules, keeps-rules}
+use Rattle.timetables.specs.Entries.{entry-in, entries-at}
+use Rattle.timetables.specs.Judged.{tasks-of, EntriesStand}
+use Rattle.timetables.proofs.EntriesRead.{entry-left}
+use Rattle.timetables.proofs.Turns.{AtEntry, stands-good, GoodStart, room, task-in-slot, turn-task, turn-good, turn-next}
+
+-- the first of the entries left breaks no rule
+first-keeps : {G : Setting} {x : G .Started} {f : ℕ} {e : Entry} {σ : List Entry} → ValidFrom G x f (e ∷ σ) → G .breaks x f (e .task) (e .start) ≡ 0
+first-keeps (entry ok valid) = ok
+
+-- and the others go on from there
+others-valid : {G : Setting} {x : G .Started} {f : ℕ} {e : Entry} {σ : List Entry} → ValidFrom G x f (e ∷ σ) →
+    ValidFrom G (G .start-job x (e .task)) (G .free-after (e .task) (e .start)) σ
+others-valid (entry ok valid) = valid
+
+-- the walk at an entry from which on the timetable is valid
+pub record ValidAt (bytes : List ℕ) (s : TaskSet) (h listed : ℕ) (releases x : List ℕ) (free at j : ℕ) : Type 0 where
+  pub all : EntriesStand bytes s h listed
+  pub here : AtEntry bytes s h releases x at j
+  pub valid : ValidFrom (setting-of (tasks-of s) h) x free (entries-at bytes at (listed - j))
+
+module _ {bytes : List ℕ} {s : TaskSet} {h listed : ℕ} {releases x : List ℕ} {free at j : ℕ} (w : ValidAt bytes s h listed releases x free at j)
+    (more : j < listed) where
+  -- an entry that is left stands in the image
+  pub entry-inside : at + size SL ≤ length bytes
+  entry-inside = omega (arith, w .here .place, w .all .inside)
+
+  module _ {e : Entry} (is : e ≡ entry-in bytes at) (d : Task) where
+    -- the set's setting
+    abbrev G : Setting
+    G = setting-of (tasks-of s) h
+
+    -- the entries behind this one
+    abbrev others : List Entry
+    others = entries-at bytes (at + size SL) (listed - (j + 1))
+
+    -- the entry is the first of those left
+    pub first-left : entries-at bytes at (listed - j) ≡ e ∷ others
+    first-left = entry-left bytes at listed j more ∙ ap (λ (y : Entry). y ∷ others) (sym is)
+
+    -- the walk goes on through it
+    from-here : ValidFrom G x free (e ∷ others)
+    from-here = subst (λ (σ : List Entry). ValidFrom G x free σ) first-left (w .valid)
+
+    -- its start keeps the rules
+    pub entry-keeps : StartKeepsRules (tasks-of s) h x free (e .task) (e .start)
+    entry-keeps = keeps-rules (tasks-of s) h x free (e .task) (e .start) (first-keeps from-here)
+
+    -- it is of a task
+    pub entry-task : e .task < s .n
+    entry-task = turn-task (w .here) e d entry-keeps
+
+    -- and what that means for its slots
+    pub entry-good : GoodStart (getD (s .tasks) (e .task) d) (getD releases (e .task) 0) (e .start)
+    entry-good = turn-good (w .here) e d entry-keeps
+
+    -- its task has few jobs
+    pub few-started : slot x (e .task) + 1 ≤ limits .ticks
+    few-started = omega (arith, entry-keeps .left, div-le-self h (task (tasks-of s) (e .task) .period), stands-good (w .all) .short)
+
+    -- the walk at the next entry
+    pub entry-next : ValidAt bytes s h listed (set releases (e .task) (getD releases (e .task) 0 + getD (s .tasks) (e .task) d .period))
+        (start-job x (e .task)) (e .start + getD (s .tasks) (e .task) d .time) (at + size SL) (j + 1)
+    entry-next = record {
+      all = w .all;
+      here = turn-next (w .here) e d entry-keeps entry-inside;
+      valid = rw (task-in-slot (s .tasks) (s .n) (e .task) d (room (w .here)) entry-task) at (others-valid from-here);
+    }

@@ -1,0 +1,171 @@
+-- `deriving::derive` meets its contract: a refusal changes nothing; else set, tables and EN are put one behind the other. Assumes nothing.
+use mathlib.Core.Bool.{true}
+use mathlib.Core.List.{List}
+use Prim.Native.Nat.{ℕ, _≤_}
+use native.Mathlib.Omega.{arith}
+use borrow.Author.Needs.{needs}
+use Rattle.rules.specs.Tasks.{limits}
+use Rattle.timetables.specs.declared.Timetable.{Timetable}
+use Rattle.timetables.specs.Judged.{Good}
+use Rattle.deriving.proofs.Deriving.{refused-so, its-entries, counted, few-counted, too-short, answered, put-out}
+use Rattle.deriving.proofs.derive.Statement.{statement}
+use Rattle.deriving.proofs.derive.Tie as tie
+
+-- the image that was judged, and what it came to
+abbrev image-of : tie.Else1 → List ℕ
+image-of c = c .before .before .before .before .before .args .image .now
+
+abbrev judged : tie.Else1 → Timetable
+judged c = c .before .before .judge .result
+
+-- it is not refused
+is-good : (c : tie.Else1) → Good (image-of c) true (judged c)
+is-good c = c .before .before .judge .ensures .good (c .if1 .left)
+
+-- what is counted is few
+few : (c : tie.Else1) →
+    (judged c .counts .idles ≤ limits .ticks) × (judged c .counts .inversions ≤ limits .jobs) × (judged c .set .n ≤ limits .tasks)
+few c = few-counted (image-of c) (judged c) (is-good c)
+
+judge-requires : tie.Need-judge-requires
+judge-requires c κs = search needs
+
+returns : tie.Need-returns
+returns c = refused-so _ _ _ (c .before .before .before .judge .ensures) (c .before .if1 .taken)
+
+first-entry-requires : tie.Need-first-entry-requires
+first-entry-requires c κs = search needs
+
+element-copy-out-end : tie.Need-element-copy-out-end
+element-copy-out-end c = search needs
+
+add-end : tie.Need-add-end
+add-end c = search needs
+
+mul-end : tie.Need-mul-end
+mul-end c = let q = few (c .before .before .before .before) in omega (arith, c .before .first-entry .ensures, q .0, q .1, q .2)
+
+add-end-2 : tie.Need-add-end-2
+add-end-2 c = let q = few (c .before .before .before .before) in omega (arith, c .before .first-entry .ensures, q .0, q .1, q .2)
+
+element-copy-out-end-2 : tie.Need-element-copy-out-end-2
+element-copy-out-end-2 c = search needs
+
+add-end-3 : tie.Need-add-end-3
+add-end-3 c = search needs
+
+mul-end-2 : tie.Need-mul-end-2
+mul-end-2 c = let q = few (c .before .before .before .before .before) in omega (arith, c .before .before .first-entry .ensures, q .0, q .1, q .2)
+
+add-end-4 : tie.Need-add-end-4
+add-end-4 c = let q = few (c .before .before .before .before .before) in omega (arith, c .before .before .first-entry .ensures, q .0, q .1, q .2)
+
+element-copy-out-length : tie.Need-element-copy-out-length
+element-copy-out-length c = search needs
+
+add-length : tie.Need-add-length
+add-length c = search needs
+
+add-length-2 : tie.Need-add-length-2
+add-length-2 c = let q = few (c .before .before .before .before .before) in omega (arith, c .before .before .first-entry .ensures, q .0, q .1, q .2)
+
+returns-2 : tie.Need-returns-2
+returns-2 c =
+    let placed = c .before .before .before in
+    let q = placed .before .before .before in
+    too-short (image-of q) (judged q) (is-good q) _ _ (omega (arith, placed .first-entry .ensures)) (c .if2 .taken)
+
+put-set-requires : tie.Need-put-set-requires
+put-set-requires c κs =
+    let placed = c .before .before .before .before in
+    (few (placed .before .before .before) .2, omega (arith, c .before .if2 .left, placed .first-entry .ensures))
+
+put-irregularities-requires : tie.Need-put-irregularities-requires
+put-irregularities-requires c κs =
+    let set = c .before .before .before in
+    let room = set .before .before in
+    let placed = room .before .before .before in
+    let q = placed .before .before .before in
+    record {
+      valid = its-entries _ _ (is-good q);
+      counted = counted _ _ (is-good q);
+      room = omega (arith, room .if2 .left, placed .first-entry .ensures, set .put-set .kept .0);
+    }
+
+cast-before : tie.Need-cast-before
+cast-before c = search needs
+
+add-before : tie.Need-add-before
+add-before c = search needs
+
+add-before-2 : tie.Need-add-before-2
+add-before-2 c =
+    let records = c .before .before .before .before in
+    let room = records .before .before .before .before .before .before in
+    let q = few (room .before .before .before .before .before .before) in
+    omega (arith, q .0, q .1, q .2)
+
+add-before-3 : tie.Need-add-before-3
+add-before-3 c =
+    let records = c .before .before .before .before .before in
+    let room = records .before .before .before .before .before .before in
+    let q = few (room .before .before .before .before .before .before) in
+    omega (arith, q .0, q .1, q .2)
+
+cast-put-end : tie.Need-cast-put-end
+cast-put-end c =
+    let records = c .before .before .before .before .before .before in
+    let room = records .before .before .before .before .before .before in
+    let q = few (room .before .before .before .before .before .before) in
+    omega (arith, q .0, q .1, q .2)
+
+put-end-requires : tie.Need-put-end-requires
+put-end-requires c κs = search needs
+
+same-length : tie.Need-same-length
+same-length c = search needs
+
+returns-3 : tie.Need-returns-3
+returns-3 c =
+    let end = c .before .before in
+    let records = end .before .before .before .before .before .before .before in
+    let set = records .before .before .before .before in
+    let room = set .before .before in
+    let placed = room .before .before .before in
+    let q = placed .before .before .before in
+    let at = placed .first-entry .ensures in (
+      answered (image-of q) (judged q) (is-good q) _ _ (omega arith) (room .if2 .left),
+      put-out (image-of q) (judged q) (is-good q) _ _ (omega arith) (room .if2 .left) _ _ _ _ _
+          (set .put-set .ensures) (records .put-irregularities .ensures)
+          (end .put-end .ensures) (omega arith) (omega arith),
+    )
+
+pub derive-spec : {M : Type 1} → statement M
+derive-spec =
+    tie.close
+    (tie.spec
+    judge-requires
+    returns
+    first-entry-requires
+    element-copy-out-end
+    add-end
+    mul-end
+    add-end-2
+    element-copy-out-end-2
+    add-end-3
+    mul-end-2
+    add-end-4
+    element-copy-out-length
+    add-length
+    add-length-2
+    returns-2
+    put-set-requires
+    put-irregularities-requires
+    cast-before
+    add-before
+    add-before-2
+    add-before-3
+    cast-put-end
+    put-end-requires
+    same-length
+    returns-3)
