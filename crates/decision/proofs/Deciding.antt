@@ -1,0 +1,206 @@
+-- One decision on the way to a start: what the ID offset shows stops it, is used, or leaves the decision to the tasks. Assumes nothing.
+use mathlib.Core.Path.{_≡_, refl, sym, _∙_, ap}
+use mathlib.Core.Bool.{true, false}
+use mathlib.Core.List.{List}
+use mathlib.Core.Option.{none}
+use Prim.Native.Nat.{ℕ, _+_, _-_, max, _≤_, _<_}
+use native.Mathlib.Omega.{arith}
+use lib.ListN.{length}
+use borrow.Author.Tests.{eq-eqb, ne-eqb}
+use Rattle.rules.specs.declared.Task.{Task}
+use Rattle.rules.specs.declared.Idle.{Idle}
+use Rattle.rules.specs.Tasks.{hyperperiod}
+use Rattle.rules.specs.Setting.{instant}
+use Rattle.rules.specs.Priority.{setting, least-release}
+use Rattle.rules.specs.Decision.{idle-for, idle-at}
+use Rattle.rules.specs.Marks.{ID, size, body-length}
+use Rattle.rules.specs.Offsets.{Shown, unreadable, no-record, shows, last-offset, lent, idle-now, past-idle, readable, tasks-readable, all-readable, next-start}
+use Rattle.rules.proofs.Cases.{by-bool, both-in, clash}
+use Rattle.rules.proofs.NextTurns.{shown-choice, lent-in-range, next-unreadable, next-idles}
+use Rattle.decision.specs.declared.IdleShown.{IdleShown}
+use Rattle.decision.specs.declared.IdleShown.the-variants.{Unreadable, NoRecord, Shows}
+use Rattle.decision.specs.declared.Recorded.{Recorded}
+use Rattle.decision.specs.declared.NextStart.{NextStart as Answer}
+use Rattle.decision.specs.declared.NextStart.the-variants.{Stuck}
+use Rattle.records.specs.Fits.{SetFits}
+use Rattle.decision.specs.Fits.{Fits}
+use Rattle.decision.specs.Shown.{idle-case, ReadTo, RecordsRead}
+use Rattle.decision.specs.Waiting.{least-of}
+use Rattle.decision.specs.Next.{next-case, next-of, StartsAt}
+use Rattle.decision.proofs.WholeRecords.{idle-after}
+use Rattle.decision.proofs.Fitting.{is-hyperperiod, least-by-end, least-as}
+use Rattle.decision.proofs.Starting.{tasks-read-all}
+
+-- the answer that the ID offset cannot be read
+idle-unread : (k : Shown Idle) → Unreadable ≡ idle-case k → readable k ≡ false
+idle-unread unreadable e = refl
+idle-unread no-record e = clash (cc)
+idle-unread (shows r after) e = clash (cc)
+
+-- that it shows no record
+idle-none : (k : Shown Idle) → NoRecord ≡ idle-case k → k ≡ no-record
+idle-none unreadable e = clash (cc)
+idle-none no-record e = refl
+idle-none (shows r after) e = clash (cc)
+
+-- that it shows one
+idle-some : {A : Type 0} (k : Shown Idle) (r : Idle) → Shows r ≡ idle-case k → ((after : ℕ) → k ≡ shows r after → A) → A
+idle-some unreadable r e go = clash (cc)
+idle-some no-record r e go = clash (cc)
+idle-some (shows q after) r e go = let same : r ≡ q = cc in go after (rw same)
+
+module _ (ts : List Task) (bytes x : List ℕ) (f : ℕ) (offsets : List ℕ) (o : ℕ) where
+  -- a task's offset that cannot be read
+  pub tasks-unread : tasks-readable (lent bytes ts) (length ts) offsets ≡ false → Stuck 25 ≡ next-of ts bytes x f offsets o
+  tasks-unread e =
+      let all : all-readable (setting ts) (lent bytes ts) offsets o ≡ false =
+      by-bool (readable (lent bytes ts .idle-shown o)) (λ b. rw (b, e)) (λ b. rw b) in
+      ap (next-case ts bytes x offsets) (sym (next-unreadable bytes ts x f (instant (setting ts) x f) offsets o refl all))
+
+  -- the ID offset cannot be read
+  pub idle-unreadable : Unreadable ≡ idle-case (lent bytes ts .idle-shown o) → Stuck 25 ≡ next-of ts bytes x f offsets o
+  idle-unreadable e =
+      let all : all-readable (setting ts) (lent bytes ts) offsets o ≡ false = rw (idle-unread (lent bytes ts .idle-shown o) e) in
+      ap (next-case ts bytes x offsets) (sym (next-unreadable bytes ts x f (instant (setting ts) x f) offsets o refl all))
+
+  module _ (h n : ℕ) (many slack releases instants : List ℕ) (fits : Fits ts h n many slack x releases)
+      (read : ReadTo ts bytes x offsets instants (length ts)) (by-end : f ≤ h) (t : ℕ) (is-instant : t ≡ max f (least-of n h releases)) where
+    -- the instant of the decision
+    instant-as : instant (setting ts) x f ≡ t
+    instant-as =
+        let least : least-of n (hyperperiod ts) releases ≡ least-release (hyperperiod ts) ts x = least-as (rw (is-hyperperiod fits) at fits) in
+        sym (is-instant ∙ rw (is-hyperperiod fits, least))
+
+    -- it is in the cycle, or at its end
+    instant-by-end : t ≤ h
+    instant-by-end = omega (arith, least-as fits, least-by-end h ts x)
+
+    -- it is left to the tasks
+    to-tasks : readable (lent bytes ts .idle-shown o) ≡ true → idle-now (lent bytes ts .idle-shown o) t ≡ none →
+        StartsAt ts bytes x f h n slack releases instants offsets o t
+    to-tasks can none-now = record {
+      many = many;
+      fits = fits;
+      tasks-read = read;
+      idle-read = can;
+      no-idle = none-now;
+      is-instant = instant-as;
+      by-end = instant-by-end;
+    }
+
+    -- no idle record is left
+    pub no-idle-left : NoRecord ≡ idle-case (lent bytes ts .idle-shown o) → StartsAt ts bytes x f h n slack releases instants offsets o t
+    no-idle-left e = let shown = idle-none (lent bytes ts .idle-shown o) e in to-tasks (rw shown) (rw shown)
+
+    module _ (r : Idle) (shown : Shows r ≡ idle-case (lent bytes ts .idle-shown o)) where
+      -- the idle record is for another instant
+      pub idle-other : (r .start ≡ t → ⊥) → StartsAt ts bytes x f h n slack releases instants offsets o t
+      idle-other other =
+          idle-some (lent bytes ts .idle-shown o) r shown (λ after e. to-tasks (rw e) (rw (e, ne-eqb (r .start) t other, idle-at)))
+
+      -- it is at least one tick long and ends in the cycle, and at or before the last offset
+      pub idle-fits : (1 ≤ r .length) × (r .start + r .length < h) × (o + size ID ≤ last-offset)
+      idle-fits =
+          idle-some (lent bytes ts .idle-shown o) r shown
+          (λ after e.
+          let a = lent-in-range bytes ts o r after e in
+          (a .0, omega (arith, is-hyperperiod fits, a .1), idle-after ts bytes o r after e .1))
+
+      -- it is used: the next start is looked for from its end
+      pub idle-used : r .start ≡ t →
+          next-start (setting ts) (lent bytes ts) x f offsets o ≡ next-start (setting ts) (lent bytes ts) x (t + r .length) offsets (o + size ID)
+      idle-used now =
+          idle-some (lent bytes ts .idle-shown o) r shown
+          (λ after e.
+          let all : all-readable (setting ts) (lent bytes ts) offsets o ≡ true =
+          both-in (readable (lent bytes ts .idle-shown o)) _ (rw e) (tasks-read-all (lent bytes ts) (length ts) offsets (read .can-read)) in
+          let choice : shown-choice (setting ts) (lent bytes ts) x t offsets o ≡ idle-for (r .length) = rw (e, eq-eqb (r .start) t now, idle-at) in
+          let past : past-idle (lent bytes ts .idle-shown o) o ≡ o + size ID = rw e (idle-after ts bytes o r after e .0) in
+          next-idles bytes ts x f t offsets o instant-as (r .length) all choice
+          ∙ ap (next-start (setting ts) (lent bytes ts) x (t + r .length) offsets) past)
+
+-- from an instant and an ID offset on, the next start is the one that was asked for, for every set that fits
+pub record Decides (bytes : List ℕ) (n h : ℕ) (many slack x releases : List ℕ) (free idle : ℕ) (offsets instants : List ℕ) (first from o : ℕ)
+    : Type 0 where
+  pub by-end : from ≤ h
+  pub is-first : first ≡ least-of n h releases
+  pub read : (ts : List Task) → Fits ts h n many slack x releases → ReadTo ts bytes x offsets instants (length ts)
+  pub same : (ts : List Task) → Fits ts h n many slack x releases →
+      next-start (setting ts) (lent bytes ts) x from offsets o ≡ next-start (setting ts) (lent bytes ts) x free offsets idle
+
+module _ {bytes : List ℕ} {n h : ℕ} {many slack x releases offsets : List ℕ} where
+  -- the tasks' offsets, read
+  module _ {r : Recorded} (records : (ts : List Task) (k : ℕ) → Fits ts k n many slack x releases → RecordsRead ts bytes x offsets r) where
+    -- a task's offset cannot be read
+    pub decides-unread : (free idle : ℕ) → r .readable ≡ false → (ts : List Task) → Fits ts h n many slack x releases →
+        Stuck 25 ≡ next-of ts bytes x free offsets idle
+    decides-unread free idle e ts fits = tasks-unread ts bytes x free offsets idle (records ts h fits .one-unread e)
+
+    -- all can be read
+    pub decides-first : {free : ℕ} (idle : ℕ) → r .readable ≡ true → free ≤ h → {first : ℕ} → first ≡ least-of n h releases →
+        Decides bytes n h many slack x releases free idle offsets (r .instants) first free idle
+    decides-first idle e by-end is-first = record {
+      by-end = by-end;
+      is-first = is-first;
+      read = λ ts fits. records ts h fits .all-read e;
+      same = λ ts fits. refl;
+    }
+
+  -- one decision, with the answer of what the ID offset shows
+  module _ {free idle : ℕ} {instants : List ℕ} {first from o : ℕ}
+      (d : Decides bytes n h many slack x releases free idle offsets instants first from o) {t : ℕ} (is-instant : t ≡ max from first) {answer : IdleShown}
+      (shown : (ts : List Task) → SetFits ts h n many slack → answer ≡ idle-case (lent bytes ts .idle-shown o)) where
+    -- the instant, by the least of releases
+    by-least : t ≡ max from (least-of n h releases)
+    by-least = is-instant ∙ ap (max from) (d .is-first)
+
+    -- what is decided here is the answer
+    pub decided-here : (ts : List Task) → Fits ts h n many slack x releases → {a : Answer} → a ≡ next-of ts bytes x from offsets o →
+        a ≡ next-of ts bytes x free offsets idle
+    decided-here ts fits e = e ∙ ap (next-case ts bytes x offsets) (d .same ts fits)
+
+    -- the ID offset cannot be read
+    pub decides-unreadable : answer ≡ Unreadable → (ts : List Task) → Fits ts h n many slack x releases →
+        Stuck 25 ≡ next-of ts bytes x free offsets idle
+    decides-unreadable e ts fits = decided-here ts fits (idle-unreadable ts bytes x from offsets o (sym e ∙ shown ts (fits .set)))
+
+    -- it shows no idle record
+    pub starts-none : answer ≡ NoRecord → (ts : List Task) → Fits ts h n many slack x releases →
+        StartsAt ts bytes x from h n slack releases instants offsets o t
+    starts-none e ts fits =
+        no-idle-left ts bytes x from offsets o h n many slack releases instants fits (d .read ts fits) (d .by-end) t by-least
+        (sym e ∙ shown ts (fits .set))
+
+    module _ {r : Idle} (shows-it : answer ≡ Shows r) where
+      -- it shows one for another instant
+      pub starts-other : (r .start ≡ t → ⊥) → (ts : List Task) → Fits ts h n many slack x releases →
+          StartsAt ts bytes x from h n slack releases instants offsets o t
+      starts-other other ts fits =
+          idle-other ts bytes x from offsets o h n many slack releases instants fits (d .read ts fits) (d .by-end) t by-least r
+          (sym shows-it ∙ shown ts (fits .set)) other
+
+      module _ (now : r .start ≡ t) (ts : List Task) (fits : Fits ts h n many slack x releases) where
+        -- one for this instant ends in the cycle, and at or before the last offset
+        pub used-fits : (1 ≤ r .length) × (t + r .length < h) × (o + size ID ≤ last-offset)
+        used-fits =
+            let w = idle-fits ts bytes x from offsets o h n many slack releases instants fits (d .read ts fits) (d .by-end) t by-least r
+            (sym shows-it ∙ shown ts (fits .set)) in
+            (w .0, omega (arith, w .1), w .2)
+
+        -- and is used
+        pub decides-again : {len : ℕ} → len ≡ body-length ID →
+            Decides bytes n h many slack x releases free idle offsets instants first (t + r .length) (o + (len + 2))
+        decides-again is-length = record {
+          by-end = omega (arith, used-fits .1);
+          is-first = d .is-first;
+          read = d .read;
+          same = λ us others. rw is-length
+              (sym
+              (idle-used us bytes x from offsets o h n many slack releases instants others (d .read us others) (d .by-end) t by-least r
+              (sym shows-it ∙ shown us (others .set)) now)
+              ∙ d .same us others);
+        }
+
+        -- less of the cycle is left
+        pub less-left : h - (t + r .length) < h - from
+        less-left = omega (arith, used-fits .0, used-fits .1)

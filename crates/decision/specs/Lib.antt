@@ -1,0 +1,4 @@
+pub mod Fits
+pub mod Shown
+pub mod Waiting
+pub mod Next

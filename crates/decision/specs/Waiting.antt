@@ -1,0 +1,61 @@
+-- Tasks by slots and by bits: the least of numbers, the mask of the tasks that pass a test, and the lowest of them as a number. Assumes nothing.
+use mathlib.Core.Bool.{Bool, true, false}
+use mathlib.Core.List.{List}
+use mathlib.Core.Option.{Option, none, some}
+use Prim.Native.Nat.{ℕ, zero, suc, _+_, _*_, _-_, _^_, min}
+use lib.Dec.{ltb, leb, eqb}
+use lib.Bits.{bitOr, bitAnd}
+use lib.Count.{trailingZeros}
+use Rattle.fields.specs.Body.{head₀, tail₀}
+use Rattle.rules.specs.Tasks.{limits}
+use Rattle.rules.specs.Timetable.{pick}
+use Rattle.rules.specs.Setting.{lowest}
+use Rattle.rules.specs.Priority.{slot}
+
+-- the least of the numbers in the first n slots and a bound
+abbrev pub least-of : ℕ → ℕ → List ℕ → ℕ
+least-of zero bound numbers = bound
+least-of (suc n) bound numbers = min (head₀ numbers) (least-of n bound (tail₀ numbers))
+
+-- a test as a bit
+abbrev pub bit : Bool → ℕ
+bit true = 1
+bit false = 0
+
+-- one bit for each of so many numbers from i on, set where the number passes
+unfoldable pub mask-from : ℕ → ℕ → (ℕ → Bool) → ℕ
+mask-from zero i passes = 0
+mask-from (suc many) i passes = mask-from many (suc i) passes * 2 + bit (passes i)
+
+-- and of the numbers from 0 on
+abbrev pub mask-of : ℕ → (ℕ → Bool) → ℕ
+mask-of many passes = mask-from many 0 passes
+
+-- a mask with a bit set
+abbrev pub set-bit : ℕ → ℕ → ℕ
+set-bit mask i = bitOr mask (2 ^ i)
+
+-- a mask of 16 with a bit cleared
+abbrev pub clear-bit : ℕ → ℕ → ℕ
+clear-bit mask i = bitAnd mask (65535 - 2 ^ i)
+
+-- has the release in a slot come by an instant
+abbrev pub come-by : List ℕ → ℕ → ℕ → Bool
+come-by releases t i = leb (slot releases i) t
+
+-- is the instant in a slot this one
+abbrev pub named-now : List ℕ → ℕ → ℕ → Bool
+named-now instants t i = eqb (slot instants i) t
+
+-- a task by its number, 16 for none
+abbrev pub task-number : Option ℕ → ℕ
+task-number none = limits .tasks
+task-number (some i) = i
+
+-- the lowest of n tasks whose slot has this instant
+abbrev pub first-at : ℕ → ℕ → List ℕ → ℕ
+first-at n t instants = task-number (lowest n (named-now instants t))
+
+-- rules (2) and (3): the task with a record for this instant, else the lowest of the mask
+abbrev pub choice-of : ℕ → ℕ → ℕ
+choice-of recorded mask = pick (ltb recorded (limits .tasks)) recorded (trailingZeros 16 mask)

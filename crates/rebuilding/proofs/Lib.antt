@@ -1,0 +1,4 @@
+pub mod Rebuilding
+pub mod Putting
+pub mod Promises
+pub mod Demand2

@@ -1,0 +1,136 @@
+-- Rebuilding from a table image that is judged: the refusal that it was judged with, no room, or the image of its timetable. Assumes nothing.
+use mathlib.Core.Path.{_≡_, sym, _∙_, ap, ap₂}
+use mathlib.Core.List.{List, [], _∷_, _++_, map, map-append}
+use mathlib.Core.Option.{none}
+use Prim.Native.Nat.{ℕ, suc, _+_, _*_, _≤_, _<_}
+use native.Mathlib.Omega.{arith}
+use lib.ListN.{length, length-map}
+use lib.Seq.{length-take-le}
+use borrow.Author.Tests.{le-leb, lt-leb}
+use Rattle.rules.specs.declared.Task.{Task}
+use Rattle.rules.specs.declared.TaskSet.{TaskSet}
+use Rattle.rules.specs.declared.Entry.{Entry}
+use Rattle.rules.specs.declared.Offsets.{Offsets}
+use Rattle.rules.specs.declared.Refusal.{Refusal}
+use Rattle.rules.specs.declared.MakeAnswer.the-variants as make-case
+use Rattle.rules.specs.Refusals.{Judged, gives, refuses, refusal, first}
+use Rattle.rules.specs.Tasks.{all-jobs, hyperperiod, GoodSet, set-fault}
+use Rattle.rules.specs.Setting.{Tables}
+use Rattle.rules.specs.Priority.{setting}
+use Rattle.rules.specs.Decision.{replay}
+use Rattle.rules.specs.Judging.{timetable-fault, records-fault, tables, tables-differ, compared, judge-tables}
+use Rattle.rules.specs.Marks.{SL, EN, size}
+use Rattle.rules.specs.Image.{image, records, record-of, set-records, of-entry, timetable-image}
+use Rattle.rules.specs.Operations.{rebuilt, rebuilt-image, make-answer, output-after, into, rebuild, rebuild-output}
+use Rattle.rules.proofs.Cases.{or-else-gives, first-none, then-gives}
+use Rattle.rules.proofs.GoodSets.{good-set}
+use Rattle.rules.proofs.JudgedTables.{timetable-judged}
+use Rattle.rules.proofs.ValidTimetables.{no-fault-valid, valid-length}
+use Rattle.rules.proofs.Images.{records-length, timetable-image-length}
+use Rattle.tables.specs.declared.Tables.{Tables as Judgement}
+use Rattle.tables.specs.Judged.{Good}
+use Rattle.tables.specs.Releases.{tasks-of}
+use Rattle.writing.specs.Writing.{put-at, record-put, behind-tasks}
+use Rattle.writing.proofs.ImagePut.{next-put, image-put}
+use Rattle.rebuilding.specs.Rebuilt.{TimetableBehind, entries-bytes, entries-put}
+
+-- tables that are judged with a timetable: the set and the records have no fault
+module _ (ts : List Task) (X : Tables) (τ : List Entry) (judged : judge-tables ts X ≡ gives τ) where
+  pub no-faults : (set-fault ts ≡ none) × (records-fault ts (hyperperiod ts) X ≡ none)
+  no-faults =
+      first-none (set-fault ts) (records-fault ts (hyperperiod ts) X)
+      (or-else-gives (first (set-fault ts) (records-fault ts (hyperperiod ts) X)) _ τ judged .0)
+
+  -- and replay gives that timetable
+  pub replayed : replay (setting ts) [] X ≡ gives τ
+  replayed =
+      then-gives (replay (setting ts) [] X) (compared ts X) τ
+      (or-else-gives (first (set-fault ts) (records-fault ts (hyperperiod ts) X)) _ τ judged .1)
+      (λ σ e c.
+      e ∙ or-else-gives (tables-differ (suc (length ts)) X (tables ts σ)) (gives σ) τ c .1)
+
+-- what an image is refused with is answered, and the output is as it was
+pub refused-so : (bytes old : List ℕ) (r : Refusal) → rebuilt bytes ≡ refuses r →
+    (make-case.Refused r ≡ rebuild bytes old) × (old ≡ rebuild-output bytes old)
+unfolding rebuild rebuild-output
+refused-so bytes old r e = (rw e, rw e)
+
+-- behind the tables of an image that is not refused there is a timetable
+pub behind-good : {bytes : List ℕ} {t : Judgement} (g : Good bytes t) → TimetableBehind bytes (t .set) (t .hyperperiod) (t .first) (g .entries)
+behind-good g = record { tables = g .tables; few = g .few; read = g .read; judged = g .judged; cycle = g .cycle; offsets = g .offsets }
+
+-- the bytes of entries are as long as so many SL records
+entries-length : (τ : List Entry) → length (entries-bytes τ) ≡ length τ * size SL
+entries-length τ = records-length SL (map of-entry τ) ∙ ap (λ (n : ℕ). n * size SL) (length-map τ of-entry)
+
+-- one entry more put behind those before it
+pub entry-put : (out : List ℕ) (n : ℕ) (σ : List Entry) (e : Entry) (at : ℕ) → at ≡ behind-tasks n + length σ * size SL → at + size SL ≤ length out →
+    record-put (entries-put out n σ) at (record-of SL (of-entry e)) ≡ entries-put out n (σ ++ (e ∷ []))
+entry-put out n σ e at at-is room =
+    next-put SL (map of-entry σ) (of-entry e) out (behind-tasks n) at (omega (arith, length-map σ of-entry)) room
+    ∙ ap (λ (vs : List (List ℕ)). put-at out (behind-tasks n) (image (records SL vs))) (sym (map-append of-entry σ (e ∷ [])))
+
+module _ (bytes : List ℕ) (s : TaskSet) (h : ℕ) (first-at : Offsets) (τ : List Entry) (g : TimetableBehind bytes s h first-at τ) where
+  abbrev ts : List Task
+  ts = tasks-of s
+
+  -- the timetable has as many entries as a cycle has jobs
+  pub as-many-entries : length τ ≡ all-jobs h ts
+  as-many-entries =
+      let a = or-else-gives (first (set-fault ts) (timetable-fault ts τ)) _ _ (timetable-judged ts (g .tables) τ (g .judged)) in
+      let b = first-none (set-fault ts) (timetable-fault ts τ) (a .0) in
+      valid-length (no-fault-valid ts τ .0 (b .1)) ∙ ap (λ (k : ℕ). all-jobs k ts) (sym (g .cycle))
+
+  -- the set is good
+  pub set-is-good : GoodSet ts h
+  set-is-good = rw (g .cycle) (good-set ts (no-faults ts (g .tables) τ (g .judged) .0))
+
+  -- its image is given, where there is room
+  image-given : (room : ℕ) → rebuilt-image room bytes ≡ into room (timetable-image ts τ)
+  image-given room = rw (g .read, g .judged)
+
+  module _ (slots : length (s .tasks) ≡ 16) (starts : ℕ) (starts-are : starts ≡ all-jobs h ts) where
+    tasks-many : length ts ≡ s .n
+    tasks-many = length-take-le (s .n) (s .tasks) (omega (arith, g .few))
+
+    -- how long the image of the timetable is
+    abbrev long : ℕ
+    long = behind-tasks (s .n) + starts * size SL + size EN
+
+    image-long : length (timetable-image ts τ) ≡ long
+    image-long = timetable-image-length ts τ ∙ omega (arith, tasks-many, as-many-entries)
+
+    -- an output that is too short is refused, and is as it was
+    pub too-short : (old : List ℕ) (n : ℕ) → n ≡ long → length old < n →
+        (make-case.Refused (refusal 20 0) ≡ rebuild bytes old) × (old ≡ rebuild-output bytes old)
+    unfolding rebuild rebuild-output
+    too-short old n n-is short =
+        let e : rebuilt-image (length old) bytes ≡ refuses (refusal 20 0) =
+        image-given (length old) ∙ rw (lt-leb (length (timetable-image ts τ)) (length old) (omega (arith, image-long))) in
+        (rw e, rw e)
+
+    module _ (old : List ℕ) (n : ℕ) (n-is : n ≡ long) (room : n ≤ length old) where
+      given : rebuilt-image (length old) bytes ≡ gives (timetable-image ts τ)
+      given = image-given (length old) ∙ rw (le-leb (length (timetable-image ts τ)) (length old) (omega (arith, image-long)))
+
+      -- else the length of the image is answered
+      pub answered : make-case.Made n ≡ rebuild bytes old
+      unfolding rebuild
+      answered = ap make-case.Made (n-is ∙ sym image-long) ∙ sym (ap make-answer given)
+
+      -- and the set, the entries and EN put one behind the other are the image at the front of the output, with all other bytes as they were
+      pub put-out : (set-put entries-in end-put : List ℕ) (end before : ℕ) →
+          set-put ≡ put-at old 0 (image (set-records 1 ts)) →
+          entries-in ≡ entries-put set-put (s .n) τ →
+          end-put ≡ record-put entries-in end (record-of EN (before ∷ [])) →
+          end + size EN ≡ n → before ≡ s .n + 1 + starts → end-put ≡ rebuild-output bytes old
+      unfolding rebuild-output
+      put-out set-put entries-in end-put end before first-put second third end-is before-is =
+          let here : end ≡ behind-tasks (length ts) + length (entries-bytes τ) =
+          omega (arith, tasks-many, as-many-entries, entries-length τ) in
+          let number : before ≡ suc (length ts + length τ) = omega (arith, tasks-many, as-many-entries) in
+          let behind : entries-in ≡ entries-put (put-at old 0 (image (set-records 1 ts))) (length ts) τ =
+          second ∙ ap₂ (λ (o : List ℕ) (k : ℕ). entries-put o k τ) first-put (sym tasks-many) in
+          third
+          ∙ rw (here, number, behind) (image-put 1 ts (records SL (map of-entry τ)) (suc (length ts + length τ)) old (omega (arith, image-long)))
+          ∙ sym (ap (λ (z : Judged (List ℕ)). output-after z old) given)

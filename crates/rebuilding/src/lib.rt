@@ -1,0 +1,99 @@
+// Rebuilding: the timetable image of a table image. The image is accepted first; a second replay writes the entries.
+use decision::NextStart;
+use images::EN;
+use images::ROWS;
+use images::SL;
+use rules::Entry;
+use rules::MakeAnswer;
+use rules::Offsets;
+use rules::Refusal;
+use rules::TaskSet;
+ghost use mathlib.Core.Path.{_≡_};
+ghost use mathlib.Core.List.{List};
+ghost use Rattle.rules.specs.declared.Entry as book-entry;
+ghost use Rattle.rules.specs.Operations.{rebuild as rebuilds, rebuild-output};
+ghost use Rattle.rebuilding.specs.Rebuilt.{TimetableBehind, entries-put, CanPut};
+
+// The entries of the rebuilt timetable, one behind the other behind the tasks.
+fn put_entries(image: &[u8], s: TaskSet, h: u32, first: Offsets, out: &mut [u8])
+    requires { ⌜ CanPut (now image) s h first (now out) ⌝ }
+    ensures { λ _. ⌜ ((τ : List book-entry.Entry) → TimetableBehind (now (image .entry)) s h first τ →
+        now (out .exit) ≡ entries-put (now (out .entry)) (s .n) τ) ⌝ }
+{
+    let n = s.n as usize;
+    let jobs = records::jobs_of(h, s);
+    let slack = records::slack_of(s);
+    let mut next = [0u32; 16];
+    let mut release = tables::releases_of(s, &next);
+    let mut offsets = first.inversions;
+    let mut idle = first.idle;
+    let mut free: u32 = 0;
+    let mut at = records::first_record(n);
+    'starts: loop {
+        if tables::all_started(n, h, &release) {
+            break 'starts;
+        }
+        match decision::next_start(
+            image,
+            n,
+            h,
+            &jobs,
+            &slack,
+            &next,
+            &release,
+            free,
+            idle,
+            &offsets,
+        ) {
+            NextStart::Stuck(_) => {
+                break 'starts;
+            }
+            NextStart::Starts(f) => {
+                let i = f.task as usize;
+                let t = s.tasks[i];
+                writing::put_entry(
+                    out,
+                    at,
+                    Entry {
+                        task: f.task,
+                        start: f.start,
+                    },
+                );
+                offsets[i] = f.inversion;
+                idle = f.idle;
+                next[i] += 1;
+                release[i] += t.period;
+                free = f.start + t.time;
+                at += ROWS[SL].body + 2;
+            }
+        }
+    }
+}
+
+// Rebuilding: the timetable image of a table image at the front of the output, and nothing else changed.
+pub fn rebuild(image: &[u8], out: &mut [u8]) -> MakeAnswer
+    ensures { λ r. ⌜ (r ≡ rebuilds (now (image .entry)) (now (out .entry))) ×
+        (now (out .exit) ≡ rebuild-output (now (image .entry)) (now (out .entry))) ⌝ }
+{
+    let t = tables::judge(image);
+    if t.refusal.number != 0 {
+        let r = t.refusal;
+        return MakeAnswer::Refused(r);
+    }
+    let s = t.set;
+    let n = s.n as usize;
+    let starts = t.jobs as usize;
+    let end = records::first_record(n) + starts * (ROWS[SL].body + 2);
+    let length = end + (ROWS[EN].body + 2);
+    if out.len() < length {
+        return MakeAnswer::Refused(Refusal {
+            number: 20,
+            place: 0,
+        });
+    }
+    writing::put_set(out, 1, s);
+    put_entries(image, s, t.hyperperiod, t.first, out);
+    let before = n + 1 + starts;
+    writing::put_end(out, end, before as u32);
+    MakeAnswer::Made(length)
+}

@@ -1,0 +1,60 @@
+-- An array of numbers that is filled slot by slot, and what stands in its slots. Assumes nothing.
+use mathlib.Core.Path.{_≡_, refl, sym, _∙_}
+use mathlib.Core.List.{List, [], _∷_, _++_}
+use Prim.Native.Nat.{ℕ, zero, suc, _+_, _≤_, _<_}
+use native.Mathlib.Omega.{arith}
+use lib.ListN.{length, getD, set, replicate, length-set}
+use lib.Seq.{drop-cons, getD-set-same, getD-set-other, ext-getD}
+use Rattle.rules.specs.Priority.{slot}
+use Rattle.rules.proofs.Cases.{by-eq}
+use Rattle.rules.proofs.PriorityLaws.{slot-empty}
+use Rattle.records.specs.Tables.{Filled}
+
+-- a slot is an element, 0 past the end
+pub slot-element : (x : List ℕ) (i : ℕ) → slot x i ≡ getD x i 0
+slot-element [] i = slot-empty i
+slot-element (a ∷ x) zero = refl
+slot-element (a ∷ x) (suc i) = slot-element x i
+
+-- inside a list it does not matter what stands for places outside
+pub inside-alike : {A : Type 0} (xs : List A) (i : ℕ) (d e : A) → i < length xs → getD xs i d ≡ getD xs i e
+inside-alike xs i d e l =
+    let a = drop-cons xs i d l in
+    let b = drop-cons xs i e l in
+    cc
+
+-- arrays of one length with the same in every slot are equal
+pub same-slots : (x y : List ℕ) → length x ≡ length y → ((i : ℕ) → i < length x → slot x i ≡ slot y i) → x ≡ y
+same-slots x y e same = ext-getD 0 x y e (λ i l. sym (slot-element x i) ∙ same i l ∙ slot-element y i)
+
+-- slots behind numbers that zeros follow are 0
+pub zeros-behind : (x : List ℕ) (many i : ℕ) → length x ≤ i → slot (x ++ replicate many 0) i ≡ 0
+zeros-behind [] zero i l = slot-empty i
+zeros-behind [] (suc many) zero l = refl
+zeros-behind [] (suc many) (suc i) l = zeros-behind [] many i (omega arith)
+zeros-behind (a ∷ x) many zero l = absurd (omega arith)
+zeros-behind (a ∷ x) many (suc i) l = zeros-behind x many i (omega arith)
+
+-- and so are all slots of zeros
+pub zeros-zero : (many i : ℕ) → slot (replicate many 0) i ≡ 0
+zeros-zero many i = zeros-behind [] many i (omega arith)
+
+-- at first nothing is filled
+pub filled-none : (before : List ℕ) (value : ℕ → ℕ) (from : ℕ) → Filled before value from from before
+filled-none before value from = record { slots = refl; inside = λ i l m. absurd (omega arith); below = λ i l. refl; above = λ i l. refl }
+
+module _ {before now : List ℕ} {value : ℕ → ℕ} {from to : ℕ} (f : Filled before value from to now) where
+  -- the other slots keep what they hold
+  stored-other : (v i : ℕ) → (i ≡ to → ⊥) → slot (set now to v) i ≡ slot now i
+  stored-other v i n = slot-element (set now to v) i ∙ getD-set-other now to i v 0 n ∙ sym (slot-element now i)
+
+  -- with a value stored behind them, one slot more is filled
+  pub filled-more : (v : ℕ) → from ≤ to → to < length before → v ≡ value to → Filled before value from (to + 1) (set now to v)
+  filled-more v l m e = record {
+    slots = length-set now to v ∙ f .slots;
+    inside = λ i a b.
+        by-eq i to (λ u. rw u (slot-element (set now to v) to ∙ getD-set-same now to v 0 (omega (arith, f .slots)) ∙ e))
+        (λ u. stored-other v i u ∙ f .inside i a (omega arith));
+    below = λ i a. stored-other v i (λ u. omega arith) ∙ f .below i a;
+    above = λ i a. stored-other v i (λ u. omega arith) ∙ f .above i (omega arith);
+  }

@@ -1,0 +1,7 @@
+pub mod Arrays
+pub mod SetKept
+pub mod OwnRules
+pub mod RecordsRead
+pub mod RecordsJudged
+pub mod OffsetsTold
+pub mod Promises

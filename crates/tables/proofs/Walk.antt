@@ -1,0 +1,215 @@
+-- A walk through a cycle, from start to start: what the arrays of the code hold, and that they hold it after the next start. Replay and writing the
+-- rebuilt timetable go this way. Assumes nothing.
+use mathlib.Core.Path.{_≡_, refl, sym, _∙_, ap}
+use mathlib.Core.Bool.{true, false}
+use mathlib.Core.List.{List, [], _∷_, _++_}
+use mathlib.Core.Option.{none}
+use Prim.Native.Nat.{ℕ, zero, suc, _+_, _-_, _≤_, _<_}
+use native.Mathlib.Omega.{arith}
+use native.Mathlib.Nat.{div-le-self, le-of-dvd, suc-mul}
+use lib.ListN.{length, getD, set, replicate, length-set, length-replicate, length-append}
+use lib.Seq.{getD-set-same, getD-set-other}
+use borrow.Author.Tests.{lt-ltb, le-ltb}
+use Rattle.fields.specs.Body.{head₀, tail₀}
+use Rattle.rules.specs.declared.Task.{Task}
+use Rattle.rules.specs.declared.Entry.{Entry}
+use Rattle.rules.specs.Refusals.{gives, refuses, refusal}
+use Rattle.rules.specs.Tasks.{limits, task, release, jobs, all-jobs, hyperperiod, GoodSet, set-fault}
+use Rattle.rules.specs.Setting.{Tables}
+use Rattle.rules.specs.Priority.{slot, start-job, all-started, setting}
+use Rattle.rules.specs.Decision.{replay}
+use Rattle.rules.specs.Offsets.{lent, past-own, next-is, next-start, inversion-offsets, first-offsets}
+use Rattle.rules.specs.Dispatcher.{zeros}
+use Rattle.rules.proofs.Cases.{by-le, by-eq, clash}
+use Rattle.rules.proofs.GoodSets.{set-good, good-rules, good-positive}
+use Rattle.rules.proofs.PriorityLaws.{slot-empty, slot-start-same, slot-start-other, due-in-cycle}
+use Rattle.rules.proofs.ShownAt.{Stand}
+use Rattle.rules.proofs.StuckStarts.{by-next}
+use Rattle.rules.proofs.OffsetReplay.{Replays, StartsNext, zeros-same, replay-begins, possible, replay-starts, replay-stuck, replay-done, done-length}
+use Rattle.records.specs.Fits.{SetFits}
+use Rattle.records.proofs.Arrays.{slot-element}
+use Rattle.decision.specs.Fits.{Fits}
+use Rattle.decision.specs.declared.Found.{Found}
+use Rattle.decision.specs.declared.NextStart.the-variants.{Starts, Stuck}
+use Rattle.decision.specs.Next.{inverts, next-case}
+use Rattle.decision.proofs.Fitting.{left-before}
+use Rattle.tables.specs.Releases.{none-before}
+use Rattle.tables.proofs.Stores.{start-stores, put-stores}
+
+-- where the walk stands after starts σ: the arrays fit the set and what has started, and replay stands there at the same offsets
+pub record WalkAt (bytes : List ℕ) (ts : List Task) (X : Tables) (h n : ℕ) (many slack : List ℕ) (σ : List Entry) (next releases : List ℕ)
+    (free idle : ℕ) (offsets : List ℕ) : Type 0 where
+  pub fits : Fits ts h n many slack next releases
+  pub replays : Replays bytes ts X σ next free offsets idle
+  pub next-slots : length next ≡ limits .tasks
+  pub release-slots : length releases ≡ limits .tasks
+  pub offset-slots : length offsets ≡ limits .tasks
+
+-- a job's release is before the end of the cycle
+pub released-in-cycle : {ts : List Task} {h : ℕ} → GoodSet ts h → (i k : ℕ) → k < jobs h (task ts i) → release (task ts i) k < h
+released-in-cycle {ts} {h} good i k left =
+    omega (arith, due-in-cycle h k (task ts i) (good-rules good i) left, good-rules good i .takes-time, good-rules good i .fits)
+
+-- numbers that lie before an instant exactly where jobs are left
+none-before-left : (h : ℕ) (ts : List Task) (x releases : List ℕ) →
+    ((i : ℕ) → i < length ts → slot x i < jobs h (task ts i) → slot releases i < h) →
+    ((i : ℕ) → i < length ts → jobs h (task ts i) ≤ slot x i → h ≤ slot releases i) →
+    none-before (length ts) h releases ≡ all-started h ts x
+unfolding none-before
+none-before-left h [] x releases before past = refl
+none-before-left h (t ∷ ts) x releases before past =
+    by-le (jobs h t) (head₀ x)
+    (λ l. rw (le-ltb (head₀ x) (jobs h t) l, le-ltb (head₀ releases) h (past 0 (omega arith) l), all-started, none-before)
+    (none-before-left h ts (tail₀ x) (tail₀ releases) (λ i k. before (suc i) (omega arith)) (λ i k. past (suc i) (omega arith))))
+    (λ l. rw (lt-ltb (head₀ x) (jobs h t) l, lt-ltb (head₀ releases) h (before 0 (omega arith) l), all-started, none-before))
+
+-- have all jobs started: no next release is before the end of the cycle
+pub all-past-started : {ts : List Task} {h n : ℕ} {many slack next releases : List ℕ} → Fits ts h n many slack next releases →
+    none-before n h releases ≡ all-started h ts next
+all-past-started {ts} {h} {n} {many} {slack} {next} {releases} fits =
+    let as-task : (i : ℕ) → i < length ts → i < n = λ i l. omega (arith, fits .set .n-tasks) in
+    rw (fits .set .n-tasks)
+    (none-before-left h ts next releases
+    (λ i l k. rw (fits .releases-there i (as-task i l)) (released-in-cycle (fits .set .good) i (slot next i) k))
+    (λ i l k. by-le h (slot releases i) (λ past. past) (λ before. absurd (omega (arith, left-before fits i (as-task i l) before)))))
+
+-- there is an offset for each task
+offsets-counted : (ts : List Task) (X : Tables) (i many : ℕ) → length (inversion-offsets ts X i many) ≡ many
+offsets-counted ts X i zero = refl
+offsets-counted ts X i (suc many) = ap suc (offsets-counted ts X (suc i) many)
+
+-- the start of a task's next job, and where the walk stands after it
+pub record WalkGoesOn (bytes : List ℕ) (ts : List Task) (X : Tables) (h n : ℕ) (many slack : List ℕ) (σ : List Entry) (next releases offsets : List ℕ)
+    (f : Found) : Type 0 where
+  pub a-task : f .task < n
+  pub one-more : getD next (f .task) 0 + 1 ≤ limits .ticks
+  pub next-release : getD releases (f .task) 0 + task ts (f .task) .period ≤ 131070
+  pub ends-in-cycle : f .start + task ts (f .task) .time ≤ h
+  pub goes-on : WalkAt bytes ts X h n many slack (σ ++ (record { task = f .task; start = f .start } ∷ []))
+      (set next (f .task) (getD next (f .task) 0 + 1)) (set releases (f .task) (getD releases (f .task) 0 + task ts (f .task) .period))
+      (f .start + task ts (f .task) .time) (f .idle) (set offsets (f .task) (f .inversion))
+
+module _ {bytes : List ℕ} {ts : List Task} {X : Tables} {before : ℕ} (st : Stand bytes ts X before) where
+  -- at the start of a cycle
+  pub walk-begins : {h n : ℕ} {many slack : List ℕ} (releases : List ℕ) → SetFits ts h n many slack → length releases ≡ limits .tasks →
+      ((i : ℕ) → i < n → slot releases i ≡ release (task ts i) (slot zeros i)) →
+      WalkAt bytes ts X h n many slack [] zeros releases 0 (first-offsets ts X .idle) (first-offsets ts X .inversions)
+  walk-begins {h} {n} releases its-set slots there = record {
+    fits = record { set = its-set; counts = λ i l. rw (zeros-same (suc i) i (omega arith), slot-empty i) (omega arith); releases-there = there };
+    replays = replay-begins st (set-good ts h (its-set .good) .0) zeros (first-offsets ts X .inversions) (zeros-same (length ts)) (λ i l. refl);
+    next-slots = length-replicate {A = ℕ} (limits .tasks) 0;
+    release-slots = slots;
+    offset-slots = omega (
+      arith,
+      its-set .few,
+      its-set .n-tasks,
+      length-append (inversion-offsets ts X 0 (length ts)) (replicate {A = ℕ} (limits .tasks - length ts) 0),
+      offsets-counted ts X 0 (length ts),
+      length-replicate {A = ℕ} (limits .tasks - length ts) 0,
+    );
+  }
+
+  module _ {h n : ℕ} {many slack : List ℕ} {σ : List Entry} {next releases : List ℕ} {free idle : ℕ} {offsets : List ℕ}
+      (w : WalkAt bytes ts X h n many slack σ next releases free idle offsets) where
+    -- the set is good, and h is its hyperperiod
+    pub walk-good : set-fault ts ≡ none
+    walk-good = set-good ts h (w .fits .set .good) .0
+
+    pub walk-cycle : h ≡ hyperperiod ts
+    walk-cycle = set-good ts h (w .fits .set .good) .1
+
+    -- the processor is free by the end of the cycle
+    pub walk-free : free ≤ h
+    walk-free = omega (arith, walk-cycle, w .replays .free-in-cycle)
+
+    -- all jobs have started: replay gives these starts, as many as a cycle has jobs
+    pub walk-done : all-started h ts next ≡ true → (replay (setting ts) [] X ≡ gives σ) × (length σ ≡ all-jobs h ts)
+    walk-done all =
+        let done : all-started (hyperperiod ts) ts next ≡ true = rw walk-cycle at all in
+        (replay-done st walk-good (w .replays) done, rw walk-cycle (done-length st walk-good (w .replays) done))
+
+    -- the releases of next jobs, after a start
+    releases-on : (i : ℕ) → i < length ts → (j : ℕ) → j < n →
+        slot (set releases i (getD releases i 0 + task ts i .period)) j ≡ release (task ts j) (slot (start-job next i) j)
+    releases-on i a j l =
+        by-eq j i
+        (λ u. rw (u, slot-start-same next i, slot-element (set releases i (getD releases i 0 + task ts i .period)) i)
+        (getD-set-same releases i _ 0 (omega (arith, w .fits .set .few, w .fits .set .n-tasks, w .release-slots))
+        ∙ omega (
+          arith,
+          slot-element releases i,
+          w .fits .releases-there i (omega (arith, w .fits .set .n-tasks)),
+          suc-mul (slot next i) (task ts i .period),
+        )))
+        (λ u. slot-element (set releases i (getD releases i 0 + task ts i .period)) j
+        ∙ getD-set-other releases i j _ 0 u
+        ∙ sym (slot-element releases j)
+        ∙ w .fits .releases-there j l
+        ∙ rw (slot-start-other next i j u))
+
+    module _ (left : all-started h ts next ≡ false) where
+      -- the next start is stuck: replay comes to a late job
+      pub walk-stuck : (number : ℕ) →
+          Stuck number ≡ next-case ts bytes next offsets (next-start (setting ts) (lent bytes ts) next free offsets idle) →
+          replay (setting ts) [] X ≡ refuses (refusal 18 (length σ))
+      walk-stuck number e =
+          by-next (next-start (setting ts) (lent bytes ts) next free offsets idle)
+          (λ i t o q. let other : Stuck number ≡ next-case ts bytes next offsets (next-is i t o) = rw q at e in clash (cc))
+          (λ m q. replay-stuck st walk-good (w .replays) (rw walk-cycle at left) m q)
+
+      -- a start with what it used
+      abbrev found : ℕ → ℕ → ℕ → Found
+      found i t o = record {
+        task = i;
+        start = t;
+        idle = o;
+        inversion = past-own (lent bytes ts .inversion-shown (slot offsets i)) i (slot next i) (slot offsets i);
+        inverts = inverts ts next t i;
+      }
+
+      -- the walk goes on behind a start that the rule book finds
+      found-goes-on : (i t o : ℕ) → next-start (setting ts) (lent bytes ts) next free offsets idle ≡ next-is i t o →
+          WalkGoesOn bytes ts X h n many slack σ next releases offsets (found i t o)
+      found-goes-on i t o q =
+          let z : StartsNext bytes ts X σ next offsets i t o = replay-starts st walk-good (w .replays) (rw walk-cycle at left) i t o q in
+          let good : GoodSet ts h = w .fits .set .good in
+          let a : i < n = omega (arith, w .fits .set .n-tasks, z .a-task) in
+          let its-job : slot next i < jobs h (task ts i) = rw walk-cycle (z .a-job) in
+          let in-slots : i < limits .tasks = omega (arith, w .fits .set .few) in
+          let there : getD releases i 0 ≡ release (task ts i) (slot next i) = sym (slot-element releases i) ∙ w .fits .releases-there i a in
+          let stored : set next i (getD next i 0 + 1) ≡ start-job next i = start-stores next i (omega (arith, w .next-slots)) in
+          let put = put-stores offsets i (found i t o .inversion) (omega (arith, w .offset-slots)) in
+          record {
+            a-task = a;
+            one-more = omega (arith, slot-element next i, div-le-self h (task ts i .period), good .short);
+            next-release = omega (
+              arith,
+              released-in-cycle good i (slot next i) its-job,
+              le-of-dvd {m = task ts i .period} {n = h} (good-positive good) (good .is-hyperperiod .common i (z .a-task)),
+              good .short,
+            );
+            ends-in-cycle = rw walk-cycle (z .ends-in-cycle);
+            goes-on = record {
+              fits = record {
+                set = w .fits .set;
+                counts = λ j l. rw (stored, walk-cycle) (possible st walk-good (z .goes-on) j (omega (arith, w .fits .set .n-tasks)));
+                releases-there = λ j l. rw stored (releases-on i (z .a-task) j l);
+              };
+              replays = rw (stored, put) (z .goes-on);
+              next-slots = length-set next i _ ∙ w .next-slots;
+              release-slots = length-set releases i _ ∙ w .release-slots;
+              offset-slots = length-set offsets i _ ∙ w .offset-slots;
+            };
+          }
+
+      -- the next start is there: the walk goes on behind it
+      pub walk-starts : (f : Found) →
+          Starts f ≡ next-case ts bytes next offsets (next-start (setting ts) (lent bytes ts) next free offsets idle) →
+          WalkGoesOn bytes ts X h n many slack σ next releases offsets f
+      walk-starts f e =
+          by-next (next-start (setting ts) (lent bytes ts) next free offsets idle)
+          (λ i t o q.
+          let is : Starts f ≡ next-case ts bytes next offsets (next-is i t o) = rw q at e in
+          let same : f ≡ found i t o = cc in
+          rw same (found-goes-on i t o q))
+          (λ m q. let other : Starts f ≡ Stuck m = rw q at e in clash (cc))

@@ -1,0 +1,90 @@
+-- `tables::judge` meets its contract: by framing, by the set or by the records. Assumes nothing.
+use mathlib.Core.Path.{_≡_, sym, _∙_}
+use borrow.Author.Needs.{needs}
+use Rattle.fields.specs.Number.{Bytes}
+use Rattle.fields.proofs.Laws.{bytes-by-index}
+use Rattle.rules.specs.Refusals.{gives}
+use Rattle.rules.specs.Framing.{frame}
+use Rattle.framing.proofs.Promises.{framed-is}
+use Rattle.framing.proofs.RoomLaws.{framed-room}
+use Rattle.tables.proofs.ImagesJudged.{judged-by-framing, judged-by-set}
+use Rattle.tables.proofs.judge.Statement.{statement}
+use Rattle.tables.proofs.judge.Tie as tie
+
+-- an image is bytes
+bytes : (c : tie.After-shared-slice-known) → Bytes (c .before .args .image .now)
+bytes c = bytes-by-index (c .before .args .image .now) (λ i. c .shared-slice-known .given i .fits)
+
+-- what is known where framing has given a layout
+framed : (c : tie.After-l) → frame 2 (c .before .before .before .before .args .image .now) ≡ gives (c .l .given .0 .0)
+framed c = framed-is _ _ (sym (c .l .given .1) ∙ c .before .before .frame .ensures)
+
+frame-requires : tie.Need-frame-requires
+frame-requires c κs = search needs
+
+enum-known-refusal : tie.Need-enum-known-refusal
+enum-known-refusal c = search needs
+
+refused-requires : tie.Need-refused-requires
+refused-requires c κs = search needs
+
+enum-known-l : tie.Need-enum-known-l
+enum-known-l c = search needs
+
+read-set-requires : tie.Need-read-set-requires
+read-set-requires c κs = framed-room 2 _ _ (framed (c .before))
+
+judge-set-requires : tie.Need-judge-set-requires
+judge-set-requires c κs = search needs
+
+enum-known-refusal-2 : tie.Need-enum-known-refusal-2
+enum-known-refusal-2 c = search needs
+
+refused-requires-2 : tie.Need-refused-requires-2
+refused-requires-2 c κs = search needs
+
+enum-known-f : tie.Need-enum-known-f
+enum-known-f c = search needs
+
+judge-records-requires : tie.Need-judge-records-requires
+judge-records-requires c κs =
+    let judged = c .before .before .before in
+    record {
+      framed = framed (judged .before .before .before);
+      set-is = judged .before .read-set .ensures;
+      good = sym (c .before .f .given .1) ∙ judged .judge-set .ensures;
+    }
+
+returns : tie.Need-returns
+returns c =
+    let told = c .before .before in
+    judged-by-framing _ _ _ (told .before .before .frame .ensures) _ (told .refusal .given .1) (c .refused .ensures)
+
+returns-2 : tie.Need-returns-2
+returns-2 c =
+    let told = c .before .before in
+    let judged = told .before .before in
+    let read = judged .before .before .before in
+    judged-by-set _ (bytes (read .before .before .before)) (framed read) (judged .before .read-set .ensures) _ _
+    (sym (told .refusal2 .given .1) ∙ judged .judge-set .ensures) (c .refused2 .ensures)
+
+returns-3 : tie.Need-returns-3
+returns-3 c = search needs
+
+pub judge-spec : {M : Type 1} → statement M
+judge-spec =
+    tie.close
+    (tie.spec
+    frame-requires
+    enum-known-refusal
+    refused-requires
+    enum-known-l
+    read-set-requires
+    judge-set-requires
+    enum-known-refusal-2
+    refused-requires-2
+    enum-known-f
+    judge-records-requires
+    returns
+    returns-2
+    returns-3)

@@ -1,0 +1,52 @@
+-- What judging a table image comes to in memory. Assumes nothing.
+use mathlib.Core.Path.{_≡_}
+use mathlib.Core.List.{List, _++_}
+use Prim.Native.Nat.{ℕ, _-_, _≤_}
+use lib.ListN.{length, replicate}
+use Rattle.rules.specs.declared.TaskSet.{TaskSet}
+use Rattle.rules.specs.declared.Entry.{Entry}
+use Rattle.rules.specs.declared.Figures.{Figures}
+use Rattle.rules.specs.declared.Layout.{Layout}
+use Rattle.rules.specs.declared.Refusal.{Refusal}
+use Rattle.rules.specs.declared.SetAnswer.the-variants as set-case
+use Rattle.rules.specs.Refusals.{gives, refuses, refusal}
+use Rattle.rules.specs.Tasks.{limits, hyperperiod, all-jobs, judge-set}
+use Rattle.rules.specs.Setting.{Tables}
+use Rattle.rules.specs.Judging.{judge-tables}
+use Rattle.rules.specs.Framing.{frame}
+use Rattle.rules.specs.Offsets.{first-offsets}
+use Rattle.rules.specs.Operations.{read-tables, rebuilt}
+use Rattle.rules.specs.Dispatcher.{zero-task, zero-offsets}
+use Rattle.framing.specs.SetRead.{set-read}
+use Rattle.tables.specs.declared.Tables.{Tables as Judgement}
+use Rattle.tables.specs.Releases.{tasks-of}
+
+-- a framed image whose set is good
+pub record SetStands (bytes : List ℕ) (s : TaskSet) (f : Figures) (l : Layout) : Type 0 where
+  pub framed : frame 2 bytes ≡ gives l
+  pub set-is : s ≡ set-read (l .tasks) bytes
+  pub good : set-case.Good f ≡ judge-set s
+
+-- beside a refusal all is zero
+abbrev pub refused-with : Refusal → Judgement
+refused-with r =
+    record { refusal = r; set = record { n = 0; tasks = replicate (limits .tasks) zero-task }; hyperperiod = 0; jobs = 0; first = zero-offsets }
+
+-- an accepted image: its set, with zero slots behind the tasks, its tables and the timetable behind them, its figures and its first offsets
+pub record Good (bytes : List ℕ) (t : Judgement) : Type 0 where
+  pub no-refusal : t .refusal ≡ refusal 0 0
+  pub tables : Tables
+  pub entries : List Entry
+  pub few : t .set .n ≤ limits .tasks
+  pub tasks-many : length (tasks-of (t .set)) ≡ t .set .n
+  pub zero-slots : t .set .tasks ≡ tasks-of (t .set) ++ replicate (limits .tasks - t .set .n) zero-task
+  pub read : read-tables bytes ≡ gives (record { tasks = tasks-of (t .set); tables = tables })
+  pub judged : judge-tables (tasks-of (t .set)) tables ≡ gives entries
+  pub cycle : t .hyperperiod ≡ hyperperiod (tasks-of (t .set))
+  pub starts : t .jobs ≡ all-jobs (t .hyperperiod) (tasks-of (t .set))
+  pub offsets : t .first ≡ first-offsets (tasks-of (t .set)) tables
+
+-- number 0 stands for no refusal
+pub record JudgedAs (bytes : List ℕ) (t : Judgement) : Type 0 where
+  pub refused : (t .refusal .number ≡ 0 → ⊥) → (rebuilt bytes ≡ refuses (t .refusal)) × (t ≡ refused-with (t .refusal))
+  pub good : t .refusal .number ≡ 0 → Good bytes t
