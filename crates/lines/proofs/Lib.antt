@@ -1,0 +1,7 @@
+pub mod Decimal
+pub mod TextPuts
+pub mod TextLengths
+pub mod Standing
+pub mod Listing
+pub mod Rebuilt
+pub mod Promises

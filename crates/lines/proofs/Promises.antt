@@ -1,0 +1,58 @@
+-- What whoever reads the program's text can rely on, from the contract of `list`: one text; the listing of the very timetable behind the tables, or the
+-- table image's refusal; and P2's listing is the document's. Assumes nothing.
+use mathlib.Core.Path.{_≡_, refl, sym, _∙_, ap}
+use mathlib.Core.List.{List, [], _∷_}
+use Prim.Native.Nat.{ℕ}
+use lib.ListN.{length}
+use Rattle.rules.specs.declared.Task.{Task}
+use Rattle.rules.specs.declared.Entry.{Entry}
+use Rattle.rules.specs.declared.Refusal.{Refusal}
+use Rattle.rules.specs.declared.CheckAnswer.the-variants.{Refused}
+use Rattle.rules.specs.Refusals.{Judged, gives, refuses}
+use Rattle.rules.specs.Framing.{frame-records}
+use Rattle.rules.specs.Operations.{Timed, rebuilt, check-answer, check-tables}
+use Rattle.rules.specs.Promised.{TableImage}
+use Rattle.rules.specs.Worked.{P2-bytes}
+use Rattle.rules.proofs.Cases.{clash, by-le}
+use Rattle.rules.proofs.Demand2.{rebuilds}
+use Rattle.lines.specs.Text.{decimal, line, ok-line, listing-of, refused-text, text-of, listing}
+use Rattle.lines.specs.Lists.{AtFront, room, Listed}
+
+-- a text at the front of an output leaves one answer and one output
+pub one-front : {text old : List ℕ} {r q : ℕ} {out other : List ℕ} → AtFront text old r out → AtFront text old q other → (r ≡ q) × (out ≡ other)
+one-front a b = (a .many ∙ sym (b .many), a .front ∙ sym (b .front))
+
+-- two results that meet the contract of `list` are equal
+pub one-listing : {bytes old : List ℕ} {r q : ℕ} {out other : List ℕ} → Listed bytes old r out → Listed bytes old q other → (r ≡ q) × (out ≡ other)
+one-listing {old = old} a b =
+    by-le room (length old) (λ l. one-front (a .lists l) (b .lists l))
+    (λ l. (a .short l .0 ∙ sym (b .short l .0), a .short l .1 ∙ sym (b .short l .1)))
+
+-- the image of a timetable's tables is listed as exactly that timetable
+pub accepted-listing : {bytes : List ℕ} {ts : List Task} {τ : List Entry} → TableImage bytes ts τ → listing bytes ≡ listing-of ts τ
+unfolding listing
+accepted-listing t = ap text-of (rebuilds t)
+
+-- what checking refused
+checked-refused : (z : Judged Timed) (r : Refusal) → check-answer z ≡ Refused r → z ≡ refuses r
+checked-refused (gives i) r e = clash (cc)
+checked-refused (refuses q) r e = let same : q ≡ r = cc in ap refuses same
+
+-- any other image is listed as the refusal that checking it gives
+pub refused-listing : (bytes : List ℕ) (r : Refusal) → check-tables bytes ≡ Refused r → listing bytes ≡ refused-text r
+unfolding check-tables listing
+refused-listing bytes r e = ap text-of (checked-refused (rebuilt bytes) r e)
+
+-- the document's seven lines and "ok 7"
+pub p2-listing : listing P2-bytes
+    ≡ (0x30 ∷ 0x20 ∷ 0x30 ∷ 0x20 ∷ 0x30 ∷ 0x20 ∷ 0x31 ∷ 0x0A
+    ∷ 0x32 ∷ 0x20 ∷ 0x30 ∷ 0x20 ∷ 0x31 ∷ 0x20 ∷ 0x37 ∷ 0x0A
+    ∷ 0x31 ∷ 0x20 ∷ 0x30 ∷ 0x20 ∷ 0x37 ∷ 0x20 ∷ 0x39 ∷ 0x0A
+    ∷ 0x30 ∷ 0x20 ∷ 0x31 ∷ 0x20 ∷ 0x39 ∷ 0x20 ∷ 0x31 ∷ 0x30 ∷ 0x0A
+    ∷ 0x30 ∷ 0x20 ∷ 0x32 ∷ 0x20 ∷ 0x31 ∷ 0x32 ∷ 0x20 ∷ 0x31 ∷ 0x33 ∷ 0x0A
+    ∷ 0x31 ∷ 0x20 ∷ 0x31 ∷ 0x20 ∷ 0x31 ∷ 0x33 ∷ 0x20 ∷ 0x31 ∷ 0x35 ∷ 0x0A
+    ∷ 0x30 ∷ 0x20 ∷ 0x33 ∷ 0x20 ∷ 0x31 ∷ 0x35 ∷ 0x20 ∷ 0x31 ∷ 0x36 ∷ 0x0A
+    ∷ 0x6F ∷ 0x6B ∷ 0x20 ∷ 0x37 ∷ 0x0A
+    ∷ [])
+unfolding listing listing-of line ok-line decimal frame-records
+p2-listing = refl

@@ -1,0 +1,26 @@
+-- `lines::entry_at` meets its contract. Assumes nothing.
+
+use Rattle.images.specs.Bodies.{entry-of}
+use mathlib.Core.Path.{_∙_, ap}
+use borrow.Author.Needs.{needs}
+use Rattle.lines.proofs.entry_at.Statement.{statement}
+use Rattle.lines.proofs.entry_at.Tie as tie
+
+add-part : tie.Need-add-part
+add-part c = search needs
+
+element-copy-out-part : tie.Need-element-copy-out-part
+element-copy-out-part c = search needs
+
+part-requires : tie.Need-part-requires
+part-requires c κs = search needs
+
+entry-body-requires : tie.Need-entry-body-requires
+entry-body-requires c κs = search needs
+
+returns : tie.Need-returns
+returns c = c .entry-body .ensures ∙ ap entry-of (c .before .part .ensures)
+
+pub entry-at-spec : {M : Type 1} → statement M
+entry-at-spec =
+    tie.close (tie.spec add-part element-copy-out-part part-requires entry-body-requires returns)

@@ -1,0 +1,76 @@
+-- The text that the program writes: document 01, "A set to work by hand". Assumes nothing.
+use mathlib.Core.List.{List, [], _∷_, _++_}
+use Prim.Native.Nat.{ℕ, zero, suc, _+_, _/_, _%_}
+use lib.Dec.{ltb}
+use lib.ListN.{length}
+use Rattle.rules.specs.declared.Task.{Task}
+use Rattle.rules.specs.declared.Entry.{Entry}
+use Rattle.rules.specs.declared.Refusal.{Refusal}
+use Rattle.rules.specs.Refusals.{Judged, gives, refuses}
+use Rattle.rules.specs.Timetable.{pick, entry-at, job-at, end-at}
+use Rattle.rules.specs.Operations.{Timed, rebuilt}
+
+-- the character between numbers, in ASCII, and the one at the end of a line
+abbrev pub space : ℕ
+space = 32
+
+abbrev pub line-end : ℕ
+line-end = 10
+
+-- a digit in ASCII
+abbrev pub digit : ℕ → ℕ
+digit d = 48 + d
+
+-- a number in decimal: a number below ten is its digit, any other has the digit of its ones behind its tens; in enough turns
+abbrev pub decimal-in : ℕ → ℕ → List ℕ
+decimal-in zero n = []
+decimal-in (suc turns) n = pick (ltb n 10) (digit n ∷ []) (decimal-in turns (n / 10) ++ (digit (n % 10) ∷ []))
+
+-- a number in decimal, with no zero in front
+unfoldable pub decimal : ℕ → List ℕ
+decimal n = decimal-in (suc n) n
+
+-- a number and the character behind it
+abbrev pub number-then : ℕ → ℕ → List ℕ
+number-then n behind = decimal n ++ (behind ∷ [])
+
+-- a line of four numbers: task, job, start, end
+unfoldable pub line : ℕ → ℕ → ℕ → ℕ → List ℕ
+line task job start end = number-then task space ++ (number-then job space ++ (number-then start space ++ number-then end line-end))
+
+-- the line of entry j of a timetable
+abbrev pub entry-line : List Task → List Entry → ℕ → List ℕ
+entry-line ts τ j = line (entry-at τ j .task) (job-at τ j) (entry-at τ j .start) (end-at ts τ j)
+
+-- the lines of the first so many entries
+abbrev pub entry-lines : List Task → List Entry → ℕ → List ℕ
+entry-lines ts τ zero = []
+entry-lines ts τ (suc j) = entry-lines ts τ j ++ entry-line ts τ j
+
+-- the two words, each with a space behind it: "ok " and "refused "
+abbrev pub ok-word : List ℕ
+ok-word = 0x6F ∷ 0x6B ∷ space ∷ []
+
+abbrev pub refused-word : List ℕ
+refused-word = 0x72 ∷ 0x65 ∷ 0x66 ∷ 0x75 ∷ 0x73 ∷ 0x65 ∷ 0x64 ∷ space ∷ []
+
+-- the last line: "ok " and the number of starts
+unfoldable pub ok-line : ℕ → List ℕ
+ok-line starts = ok-word ++ number-then starts line-end
+
+-- the listing of a timetable: a line for each start, then the last line
+unfoldable pub listing-of : List Task → List Entry → List ℕ
+listing-of ts τ = entry-lines ts τ (length τ) ++ ok-line (length τ)
+
+-- a refusal is one line: "refused ", its number and its place
+unfoldable pub refused-text : Refusal → List ℕ
+refused-text r = refused-word ++ (number-then (r .number) space ++ number-then (r .place) line-end)
+
+-- what judging came to, as text
+abbrev pub text-of : Judged Timed → List ℕ
+text-of (gives i) = listing-of (i .tasks) (i .entries)
+text-of (refuses r) = refused-text r
+
+-- the listing of any bytes as a table image: the timetable that is rebuilt, or the refusal
+unfoldable pub listing : List ℕ → List ℕ
+listing bytes = text-of (rebuilt bytes)
