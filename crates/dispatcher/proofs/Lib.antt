@@ -1,0 +1,6 @@
+pub mod Zeros
+pub mod Slots
+pub mod Starting
+pub mod Going
+pub mod Beginning
+pub mod Promises

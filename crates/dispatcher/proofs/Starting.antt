@@ -1,0 +1,138 @@
+-- The next start of a state, as the code makes it out of what it was answered. Assumes nothing.
+use mathlib.Core.Path.{_≡_, refl, sym, _∙_, ap}
+use mathlib.Core.List.{List}
+use Prim.Native.Nat.{ℕ, zero, suc, _+_, _*_, _≤_, _<_}
+use native.Mathlib.Omega.{arith}
+use native.Mathlib.Nat.{div-le-self}
+use lib.ListN.{length, getD, set}
+use Rattle.rules.specs.declared.Task.{Task}
+use Rattle.rules.specs.declared.StartAnswer.the-variants.{Start}
+use Rattle.rules.specs.declared.Dispatcher.{Dispatcher as State}
+use Rattle.rules.specs.declared.Turn.{Turn}
+use Rattle.rules.specs.Refusals.{refusal}
+use Rattle.rules.specs.Tasks.{GoodSet, task, jobs, hyperperiod}
+use Rattle.rules.specs.Setting.{instant}
+use Rattle.rules.specs.Priority.{slot, start-job, setting}
+use Rattle.rules.specs.Offsets.{lent, past-idle, past-own, put-slot, NextStart, next-is, stuck, next-start}
+use Rattle.rules.specs.Dispatcher.{stopped, set-of, refused, started, start-next}
+use Rattle.rules.proofs.Cases.{clash}
+use Rattle.rules.proofs.PriorityLaws.{keeps-rules, setting-laws}
+use Rattle.rules.proofs.GoodSets.{good-rules, set-good}
+use Rattle.rules.proofs.StuckStarts.{by-next}
+use Rattle.rules.proofs.NextTurns.{next-unreadable, next-idles, idle-ends, next-starts, next-refused, by-one-turn}
+use Rattle.decision.specs.declared.Found.{Found}
+use Rattle.decision.specs.declared.NextStart.{NextStart as Answer}
+use Rattle.decision.specs.declared.NextStart.the-variants.{Starts, Stuck}
+use Rattle.decision.specs.Fits.{Fits}
+use Rattle.decision.specs.Next.{inverts, next-case}
+use Rattle.records.proofs.Arrays.{slot-element}
+use Rattle.tables.proofs.Stores.{start-stores, put-stores}
+
+module _ (bytes : List ℕ) {ts : List Task} (good : GoodSet ts (hyperperiod ts)) (x : List ℕ) (offsets : List ℕ) (i t w : ℕ) where
+  -- task i is of the set and has a job left
+  abbrev Left : Type 0
+  Left = (i < length ts) × (slot x i < jobs (hyperperiod ts) (task ts i))
+
+  -- a start that is found is of such a task: in turns that are enough for what is left of the cycle
+  found-in : (turns : ℕ) (f o : ℕ) → hyperperiod ts < turns + f → 1 ≤ turns →
+      next-start (setting ts) (lent bytes ts) x f offsets o ≡ next-is i t w → Left
+  found-in zero f o past some e = absurd (omega arith)
+  found-in (suc turns) f o past some e =
+      let now : ℕ = instant (setting ts) x f in
+      by-one-turn bytes ts x f now offsets o refl
+      (λ a. let g : stuck 25 ≡ next-is i t w = sym (next-unreadable bytes ts x f now offsets o refl a) ∙ e in clash (cc))
+      (λ l a d. let k = idle-ends bytes ts x f now offsets o refl l d in
+      found-in turns (now + l) (past-idle (lent bytes ts .idle-shown o) o) (omega arith) (omega arith)
+      (sym (next-idles bytes ts x f now offsets o refl l a d) ∙ e))
+      (λ j a d k.
+      let g : next-is j now o ≡ next-is i t w = sym (next-starts bytes ts x f now offsets o refl j a d k) ∙ e in
+      let same : j ≡ i = cc in
+      let none-broken = setting-laws ts (hyperperiod ts) (good-rules good) .replay-refuses x now j now k in
+      let keep = keeps-rules ts (hyperperiod ts) x now j now none-broken in
+      rw (← same) (keep .a-task, keep .left))
+      (λ j m a d k. let g : stuck (suc m) ≡ next-is i t w = sym (next-refused bytes ts x f now offsets o refl j m a d k) ∙ e in clash (cc))
+
+  -- and so in all turns
+  pub found-left : (f o : ℕ) → next-start (setting ts) (lent bytes ts) x f offsets o ≡ next-is i t w → Left
+  found-left f o e = found-in (suc (hyperperiod ts)) f o (omega arith) (omega arith) e
+
+-- the turn that starts a job: of a state, in a cycle, with next job numbers and offsets after it
+abbrev pub turn-with : State → ℕ → ℕ → ℕ → ℕ → ℕ → List ℕ → ℕ → List ℕ → Turn
+turn-with d c i job time start next o offsets = record {
+  answer = Start (record { task = i; job = job; cycle = c; time = time });
+  state = record {
+    set = d .set;
+    next = next;
+    cycle = c;
+    running = record { task = i; job = job; start = start };
+    now = record { idle = o; inversions = offsets };
+    first = d .first;
+  };
+}
+
+-- a next start as it was answered, in a state whose set and next job numbers the arrays fit
+module _ (bytes : List ℕ) (d : State) {h n : ℕ} {many slack x releases : List ℕ} (fits : Fits (set-of d) h n many slack x releases)
+    (f : ℕ) (offsets : List ℕ) (o : ℕ) (answer : Answer)
+    (is : (ts : List Task) → Fits ts h n many slack x releases →
+    answer ≡ next-case ts bytes x offsets (next-start (setting ts) (lent bytes ts) x f offsets o)) where
+  -- the rule book's next start
+  abbrev in-book : NextStart
+  in-book = next-start (setting (set-of d)) (lent bytes (set-of d)) x f offsets o
+
+  -- a start with what it used
+  abbrev told : ℕ → ℕ → ℕ → Found
+  told i t w = record {
+    task = i;
+    start = t;
+    idle = w;
+    inversion = past-own (lent bytes (set-of d) .inversion-shown (slot offsets i)) i (slot x i) (slot offsets i);
+    inverts = inverts (set-of d) x t i;
+  }
+
+  -- what was answered is what the rule book has: a start
+  answered-start : (i t w : ℕ) → in-book ≡ next-is i t w → answer ≡ Starts (told i t w)
+  answered-start i t w e = is (set-of d) fits ∙ ap (next-case (set-of d) bytes x offsets) e
+
+  -- or none
+  answered-stuck : (number : ℕ) → in-book ≡ stuck number → answer ≡ Stuck number
+  answered-stuck number e = is (set-of d) fits ∙ ap (next-case (set-of d) bytes x offsets) e
+
+  -- none is found: 25
+  pub stuck-next : (c number : ℕ) → answer ≡ Stuck number → refused (refusal 25 0) stopped ≡ start-next bytes d c x f offsets o
+  stuck-next c number e =
+      by-next in-book (λ i t w g. let s = answered-start i t w g in clash (cc)) (λ m g. sym (ap (started bytes d c x offsets) g))
+
+  -- how a start that is found comes about
+  by-found : {A : Type 0} (found : Found) → answer ≡ Starts found → ((i t w : ℕ) → in-book ≡ next-is i t w → told i t w ≡ found → A) → A
+  by-found found e go =
+      by-next in-book (λ i t w g. let s = answered-start i t w g in go i t w g (cc)) (λ m g. let s = answered-stuck m g in clash (cc))
+
+  -- h is the hyperperiod
+  pub cycle-is : h ≡ hyperperiod (set-of d)
+  cycle-is = set-good (set-of d) h (fits .set .good) .1
+
+  -- a start that is found is of a task of the set, and one more of its jobs can be counted
+  pub found-task : (found : Found) → answer ≡ Starts found → (found .task < n) × (slot x (found .task) < h)
+  found-task found e =
+      by-found found e
+      (λ i t w g same.
+      let good : GoodSet (set-of d) (hyperperiod (set-of d)) = rw cycle-is at (fits .set .good) in
+      let left = found-left bytes good x offsets i t w f o g in
+      rw (← same) (omega (arith, left .0, fits .set .n-tasks), omega (arith, left .1, cycle-is, div-le-self (hyperperiod (set-of d)) (task (set-of d) i .period))))
+
+  -- the turn that makes the start
+  pub start-turn : (c : ℕ) (found : Found) → answer ≡ Starts found → length x ≡ 16 → length offsets ≡ 16 →
+      turn-with d c (found .task) (getD x (found .task) 0) (c * h + found .start) (found .start)
+      (set x (found .task) (getD x (found .task) 0 + 1)) (found .idle) (set offsets (found .task) (found .inversion))
+      ≡ start-next bytes d c x f offsets o
+  start-turn c found e slots offset-slots =
+      let a = found-task found e .0 in
+      let few = fits .set .few in
+      by-found found e
+      (λ i t w g same.
+      let here : found .task ≡ i = cc in
+      let inside : i < 16 = omega arith in
+      let job : getD x i 0 ≡ slot x i = sym (slot-element x i) in
+      let next : set x i (getD x i 0 + 1) ≡ start-job x i = start-stores x i (omega arith) in
+      let moves : set offsets i (told i t w .inversion) ≡ put-slot offsets i (told i t w .inversion) = put-stores offsets i _ (omega arith) in
+      rw (← same, next, job, moves, cycle-is) (sym (ap (started bytes d c x offsets) g)))

@@ -1,0 +1,63 @@
+-- `dispatcher::all_zero` meets its contract. The invariant: what is left from i on is all 0 exactly where the whole is. Assumes nothing.
+use mathlib.Core.Path.{_≡_, refl, sym, _∙_}
+use Prim.Native.Nat.{_-_, _≤_}
+use native.Mathlib.Omega.{arith}
+use lib.ListN.{drop, drop-of-length-le}
+use borrow.Author.Needs.{needs}
+use Rattle.rules.specs.Dispatcher.{all-zero}
+use Rattle.dispatcher.proofs.Zeros.{not-zero-here, zero-here}
+use Rattle.dispatcher.proofs.all_zero.Statement.{statement}
+use Rattle.dispatcher.proofs.all_zero.Tie as tie
+
+abbrev Inv-loop : tie.InvT-loop
+Inv-loop numbers i₀ i = (i ≤ 16) × (all-zero numbers ≡ all-zero (drop i numbers))
+
+abbrev μ-loop : tie.MeasureT-loop
+μ-loop numbers i₀ i = 16 - i
+
+loop-holds : tie.Need-loop-holds Inv-loop μ-loop
+loop-holds c = (omega arith, refl)
+
+mul-if1 : tie.Need-mul-if1 Inv-loop μ-loop
+mul-if1 c = search needs
+
+element-copy-out-if1 : tie.Need-element-copy-out-if1 Inv-loop μ-loop
+element-copy-out-if1 c = search needs
+
+returns : tie.Need-returns Inv-loop μ-loop
+returns c =
+    let at = c .before .before .before in
+    let numbers = at .before .args .numbers .now in
+    sym (at .loop .inv .1 ∙ not-zero-here numbers (at .loop .i) (omega arith) (c .if1 .taken))
+
+add-i : tie.Need-add-i Inv-loop μ-loop
+add-i c = search needs
+
+loop-less : tie.Need-loop-less Inv-loop μ-loop
+loop-less c = search needs
+
+loop-again : tie.Need-loop-again Inv-loop μ-loop
+loop-again c =
+    let at = c .before .before .before in
+    let numbers = at .before .args .numbers .now in
+    (omega arith, at .loop .inv .1 ∙ zero-here numbers (at .loop .i) (omega arith) (c .if1 .left))
+
+returns-2 : tie.Need-returns-2 Inv-loop μ-loop
+returns-2 c =
+    let numbers = c .before .before .args .numbers .now in
+    sym (c .before .loop .inv .1 ∙ rw (drop-of-length-le numbers {i = c .before .loop .i} (omega arith)))
+
+pub all-zero-spec : {M : Type 1} → statement M
+all-zero-spec =
+    tie.close
+    (tie.spec
+    Inv-loop
+    μ-loop
+    loop-holds
+    mul-if1
+    element-copy-out-if1
+    returns
+    add-i
+    loop-less
+    loop-again
+    returns-2)
