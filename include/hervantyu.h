@@ -14,8 +14,11 @@
  *                       than 4,096 jobs a cycle (9)
  *   11 to 16            the entries of a timetable in turn: task number (11), too many jobs (12), before release (13), overlap (14), late (15); then a
  *                       job is missing (16)
+ *   17, 18, 19          the records of tables: in turn, one breaks its own rule or comes out of its turn (17); then their replay, a job would start too
+ *                       late for its deadline (18); then a record changes nothing, the replayed timetable's own tables are without it (19)
  *   20                  the result is longer than the lent output
- * A place is the index of the record at fault, from 0; for 8, 9 and 20 it is 0, for 16 the lowest task number with a job missing.
+ * A place is the index of the record at fault, from 0; for 8, 9 and 20 it is 0, for 16 the lowest task number with a job missing, for 18 the index of the
+ * late job among the starts.
  */
 #ifndef HERVANTYU_H
 #define HERVANTYU_H
@@ -46,6 +49,14 @@ uint32_t hv_check_timetable(const uint8_t *HV_RESTRICT image, size_t len, uint64
  * out, *length is its length, and the bytes of out behind it keep their values. */
 uint32_t hv_derive(const uint8_t *HV_RESTRICT image, size_t len, uint8_t *HV_RESTRICT out, size_t room, uint64_t *HV_RESTRICT place,
                    uint64_t *HV_RESTRICT length);
+
+/* Checks a table image: accepted exactly when it is the image of a good set and of the tables that a valid timetable of it has. Gives 1 to 10, 17, 18, 19. */
+uint32_t hv_check_tables(const uint8_t *HV_RESTRICT image, size_t len, uint64_t *HV_RESTRICT place);
+
+/* Rebuilds: turns a table image into the image of the one valid timetable that has these tables. Gives 1 to 10, 17, 18, 19 as checking tables does, then 20.
+ * Where nothing is refused the timetable image fills the front of out, *length is its length, and the bytes of out behind it keep their values. */
+uint32_t hv_rebuild(const uint8_t *HV_RESTRICT image, size_t len, uint8_t *HV_RESTRICT out, size_t room, uint64_t *HV_RESTRICT place,
+                    uint64_t *HV_RESTRICT length);
 
 #ifdef __cplusplus
 }

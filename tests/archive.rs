@@ -1,6 +1,8 @@
 //! The archive's C names, and a safe call for each: every lent buffer stands between guards, and a
 //! call that changes more than it may is a panic with the case.
 
+use std::fmt::Display;
+
 extern "C" {
     pub fn hv_judge_set(
         n: u32,
@@ -18,7 +20,22 @@ extern "C" {
         place: *mut u64,
         length: *mut u64,
     ) -> u32;
+    pub fn hv_check_tables(image: *const u8, len: usize, place: *mut u64) -> u32;
+    pub fn hv_rebuild(
+        image: *const u8,
+        len: usize,
+        out: *mut u8,
+        room: usize,
+        place: *mut u64,
+        length: *mut u64,
+    ) -> u32;
 }
+
+/// A function that checks an image.
+pub type Check = unsafe extern "C" fn(*const u8, usize, *mut u64) -> u32;
+
+/// A function that turns an image into the one of the other kind.
+pub type Turn = unsafe extern "C" fn(*const u8, usize, *mut u8, usize, *mut u64, *mut u64) -> u32;
 
 /// The tasks that a set in memory has room for.
 pub const SLOTS: usize = 16;
@@ -32,7 +49,7 @@ pub struct Refusal {
 // ---- The calls ----
 
 /// The hyperperiod and the jobs of a good set; a slot below n that is not given is 0.
-pub fn judge_set(case: &str, n: u32, tasks: &[[u32; 4]]) -> Result<(u32, u32), Refusal> {
+pub fn judge_set(case: &dyn Display, n: u32, tasks: &[[u32; 4]]) -> Result<(u32, u32), Refusal> {
     twice(case, |filling| {
         let mut tasks = Lent::new(&slots(n, tasks, filling), filling);
         let mut place = Lent::<u64>::filled(1, filling);
@@ -53,19 +70,37 @@ pub fn judge_set(case: &str, n: u32, tasks: &[[u32; 4]]) -> Result<(u32, u32), R
 }
 
 /// Checks a timetable image.
-pub fn check_timetable(case: &str, image: &[u8]) -> Result<(), Refusal> {
+pub fn check_timetable(case: &dyn Display, image: &[u8]) -> Result<(), Refusal> {
+    check(case, hv_check_timetable, image)
+}
+
+/// Checks a table image.
+pub fn check_tables(case: &dyn Display, image: &[u8]) -> Result<(), Refusal> {
+    check(case, hv_check_tables, image)
+}
+
+/// The table image of a timetable image, derived into an output of `room` bytes.
+pub fn derive(case: &dyn Display, room: usize, image: &[u8]) -> Result<Vec<u8>, Refusal> {
+    turn(case, hv_derive, room, image)
+}
+
+/// The timetable image of a table image, rebuilt into an output of `room` bytes.
+pub fn rebuild(case: &dyn Display, room: usize, image: &[u8]) -> Result<Vec<u8>, Refusal> {
+    turn(case, hv_rebuild, room, image)
+}
+
+fn check(case: &dyn Display, function: Check, image: &[u8]) -> Result<(), Refusal> {
     twice(case, |filling| {
         let mut lent = Lent::new(image, filling);
         let mut place = Lent::<u64>::filled(1, filling);
         // SAFETY: the image has as many bytes as is said, and the two regions do not overlap.
-        let number = unsafe { hv_check_timetable(lent.pointer(), image.len(), place.pointer()) };
+        let number = unsafe { function(lent.pointer(), image.len(), place.pointer()) };
         lent.demand_kept(0, case, "the image");
         answer(number, &place, case)
     })
 }
 
-/// The table image of a timetable image, derived into an output of `room` bytes.
-pub fn derive(case: &str, room: usize, image: &[u8]) -> Result<Vec<u8>, Refusal> {
+fn turn(case: &dyn Display, function: Turn, room: usize, image: &[u8]) -> Result<Vec<u8>, Refusal> {
     twice(case, |filling| {
         let mut lent = Lent::new(image, filling);
         let mut out = Lent::<u8>::filled(room, filling);
@@ -74,7 +109,7 @@ pub fn derive(case: &str, room: usize, image: &[u8]) -> Result<Vec<u8>, Refusal>
         // SAFETY: image and output have as many bytes as is said, and no two regions overlap.
         let number = unsafe {
             let (p, l) = (place.pointer(), length.pointer());
-            hv_derive(lent.pointer(), image.len(), out.pointer(), room, p, l)
+            function(lent.pointer(), image.len(), out.pointer(), room, p, l)
         };
         lent.demand_kept(0, case, "the image");
         length.demand_kept(usize::from(number == 0), case, "the length");
@@ -95,7 +130,7 @@ fn slots(n: u32, tasks: &[[u32; 4]], filling: u8) -> Vec<u32> {
 }
 
 /// What the returned number and the stored place say: without a refusal the place is 0.
-fn answer(number: u32, place: &Lent<u64>, case: &str) -> Result<(), Refusal> {
+fn answer(number: u32, place: &Lent<u64>, case: &dyn Display) -> Result<(), Refusal> {
     place.demand_kept(1, case, "the place");
     let place = place.content()[0];
     if number != 0 {
@@ -110,7 +145,7 @@ fn answer(number: u32, place: &Lent<u64>, case: &str) -> Result<(), Refusal> {
 }
 
 /// The answer of a call that is made twice, over opposite fillings, and has to be the same.
-fn twice<A: PartialEq>(case: &str, call: impl Fn(u8) -> A) -> A {
+fn twice<A: PartialEq>(case: &dyn Display, call: impl Fn(u8) -> A) -> A {
     let [first, second] = [0x5A, 0xA5].map(call);
     demand(
         first == second,
@@ -120,7 +155,7 @@ fn twice<A: PartialEq>(case: &str, call: impl Fn(u8) -> A) -> A {
     first
 }
 
-fn demand(held: bool, case: &str, fault: &str) {
+fn demand(held: bool, case: &dyn Display, fault: &str) {
     assert!(held, "{fault}: {case}");
 }
 
@@ -190,7 +225,7 @@ impl<T: Unit> Lent<T> {
     }
 
     /// Demands that all is as it was, but for so many units at the front of the content.
-    fn demand_kept(&self, written: usize, case: &str, name: &str) {
+    fn demand_kept(&self, written: usize, case: &dyn Display, name: &str) {
         let behind = self.front + written;
         let front = self.now[..self.front] == self.before[..self.front];
         let rest = self.now[behind..] == self.before[behind..];

@@ -1,5 +1,6 @@
 //! Measures the archive and an implementation written for speed side by side, on valid timetables
-//! with forced idles and inversions that are made from a fixed seed.
+//! with forced idles and inversions that are made from a fixed seed, and on their tables; beside
+//! them, for accepting tables, one that need not keep the archive's limits.
 
 #[allow(dead_code)]
 mod archive;
@@ -8,8 +9,9 @@ mod archive;
 mod chance;
 mod fast;
 
+use archive::{Check, Turn};
 use chance::Chance;
-use fast::Refusal;
+use fast::{unlimited, Refusal};
 use std::hint::black_box;
 use std::time::{Duration, Instant};
 
@@ -31,34 +33,40 @@ const SETS: [&[(u32, usize)]; 6] = [
 
 fn main() {
     let mut chance = Chance::new(SEED);
-    println!("archive/fast  call   tasks  jobs idles  inversions  bytes  archive ns   fast ns");
+    println!(
+        "archive/fast  call    tasks  jobs idles  inversions  bytes  archive ns   fast ns  \
+         unlimited ns"
+    );
     for periods in SETS {
         let tasks = tasks_of(&mut chance, periods);
         let entries = timetable(&mut chance, &tasks);
         let image = image_of(&tasks, &entries);
-        let (idles, inversions) = irregularities(&same_answers(&image), tasks.len());
-        same_refusals(&mut chance, &image);
-        let shape = [tasks.len(), entries.len(), idles, inversions, image.len()];
-        let check = side_by_side(
-            || archive_check(black_box(&image)).is_ok(),
-            || fast::check_timetable(black_box(&image)).is_ok(),
-        );
-        print_row("check", shape, check);
-        let (mut one, mut other) = (vec![0; ROOM], vec![0; ROOM]);
-        let derive = side_by_side(
-            || archive_derive(black_box(&image), &mut one).is_ok(),
-            || fast::derive(black_box(&image), &mut other).is_ok(),
-        );
-        print_row("derive", shape, derive);
+        let tables = same_answers(&TIMETABLES, &image);
+        assert_eq!(same_answers(&TABLES, &tables), image);
+        same_refusals(&TIMETABLES, &mut chance, &image);
+        same_refusals(&TABLES, &mut Chance::new(SEED), &tables);
+        let (idles, inversions) = irregularities(&tables, tasks.len());
+        let shape = [tasks.len(), entries.len(), idles, inversions];
+        let [check, derive] = TIMETABLES.times(&image);
+        print_row("check", shape, &image, &check);
+        print_row("derive", shape, &image, &derive);
+        let [accept, rebuild] = TABLES.times(&tables);
+        print_row("accept", shape, &tables, &accept);
+        print_row("rebuild", shape, &tables, &rebuild);
     }
 }
 
-fn print_row(call: &str, shape: [usize; 5], [archive, fast]: [f64; 2]) {
-    let [tasks, jobs, idles, inversions, bytes] = shape;
+/// The last of the times is there only for accepting.
+fn print_row(call: &str, shape: [usize; 4], image: &[u8], times: &[f64]) {
+    let ([tasks, jobs, idles, inversions], bytes) = (shape, image.len());
+    let (archive, fast) = (times[0], times[1]);
     let ratio = archive / fast;
+    let unlimited = times
+        .get(2)
+        .map_or(String::new(), |time| format!("{time:.0}"));
     println!(
-        "{ratio:>12.2}  {call:<6} {tasks:>5} {jobs:>5} {idles:>5} {inversions:>11} {bytes:>6} \
-         {archive:>11.0} {fast:>9.0}"
+        "{ratio:>12.2}  {call:<7} {tasks:>5} {jobs:>5} {idles:>5} {inversions:>11} {bytes:>6} \
+         {archive:>11.0} {fast:>9.0} {unlimited:>13}"
     );
 }
 
@@ -146,55 +154,109 @@ fn image_of(tasks: &[[u32; 4]], entries: &[(usize, u32)]) -> Vec<u8> {
     image
 }
 
-// ---- The two sides ----
+// ---- The sides ----
 
-fn archive_check(image: &[u8]) -> Result<(), Refusal> {
-    let mut place = 0;
-    // SAFETY: the image has as many bytes as is said, and the two regions do not overlap.
-    match unsafe { archive::hv_check_timetable(image.as_ptr(), image.len(), &mut place) } {
-        0 => Ok(()),
-        number => Err(Refusal { number, place }),
+type FastCheck = fn(&[u8]) -> Result<(), Refusal>;
+type FastTurn = fn(&[u8], &mut [u8]) -> Result<usize, Refusal>;
+
+/// What images of a kind are asked: the archive's functions and the others'.
+struct Sides {
+    archive_check: Check,
+    archive_turn: Turn,
+    fast_check: FastCheck,
+    fast_turn: FastTurn,
+    unlimited_check: Option<FastCheck>,
+}
+
+const TIMETABLES: Sides = Sides {
+    archive_check: archive::hv_check_timetable,
+    archive_turn: archive::hv_derive,
+    fast_check: fast::check_timetable,
+    fast_turn: fast::derive,
+    unlimited_check: None,
+};
+
+const TABLES: Sides = Sides {
+    archive_check: archive::hv_check_tables,
+    archive_turn: archive::hv_rebuild,
+    fast_check: fast::check_tables,
+    fast_turn: fast::rebuild,
+    unlimited_check: Some(unlimited::check_tables),
+};
+
+impl Sides {
+    fn check(&self, image: &[u8]) -> Result<(), Refusal> {
+        let mut place = 0;
+        // SAFETY: the image has as many bytes as is said, and the two regions do not overlap.
+        match unsafe { (self.archive_check)(image.as_ptr(), image.len(), &mut place) } {
+            0 => Ok(()),
+            number => Err(Refusal { number, place }),
+        }
+    }
+
+    fn turn(&self, image: &[u8], out: &mut [u8]) -> Result<usize, Refusal> {
+        let (mut place, mut length) = (0, 0);
+        let (from, to) = (image.as_ptr(), out.as_mut_ptr());
+        let (len, room) = (image.len(), out.len());
+        // SAFETY: image and output have as many bytes as is said, and no two regions overlap.
+        match unsafe { (self.archive_turn)(from, len, to, room, &mut place, &mut length) } {
+            0 => Ok(length as usize),
+            number => Err(Refusal { number, place }),
+        }
+    }
+
+    /// The times of checking and of turning an image, the archive's first.
+    fn times(&self, image: &[u8]) -> [Vec<f64>; 2] {
+        let image = || black_box(image);
+        let mut checks: Vec<Call> = vec![
+            Box::new(|| self.check(image()).is_ok()),
+            Box::new(|| (self.fast_check)(image()).is_ok()),
+        ];
+        if let Some(check) = self.unlimited_check {
+            checks.push(Box::new(move || check(image()).is_ok()));
+        }
+        let (mut one, mut other) = (vec![0; ROOM], vec![0; ROOM]);
+        let turns: Vec<Call> = vec![
+            Box::new(|| self.turn(image(), &mut one).is_ok()),
+            Box::new(|| (self.fast_turn)(image(), &mut other).is_ok()),
+        ];
+        [side_by_side(checks), side_by_side(turns)]
     }
 }
 
-fn archive_derive(image: &[u8], out: &mut [u8]) -> Result<usize, Refusal> {
-    let (mut place, mut length) = (0, 0);
-    let (from, to) = (image.as_ptr(), out.as_mut_ptr());
-    // SAFETY: image and output have as many bytes as is said, and no two regions overlap.
-    match unsafe { archive::hv_derive(from, image.len(), to, out.len(), &mut place, &mut length) } {
-        0 => Ok(length as usize),
-        number => Err(Refusal { number, place }),
-    }
-}
-
-/// Demands that both sides answer the same, bytes included, and gives back the answer.
-fn both(image: &[u8], room: usize) -> Result<Vec<u8>, Refusal> {
+/// Demands that all sides answer the same, bytes included, and gives back the answer.
+fn same(sides: &Sides, image: &[u8], room: usize) -> Result<Vec<u8>, Refusal> {
     let (mut one, mut other) = (vec![0x5A; room], vec![0x5A; room]);
-    let derived = archive_derive(image, &mut one);
-    assert_eq!(archive_check(image), fast::check_timetable(image));
-    assert_eq!(derived, fast::derive(image, &mut other));
+    let checked = sides.check(image);
+    assert_eq!(checked, (sides.fast_check)(image));
+    if let Some(check) = sides.unlimited_check {
+        assert_eq!(checked, check(image));
+    }
+    let turned = sides.turn(image, &mut one);
+    assert_eq!(turned, (sides.fast_turn)(image, &mut other));
     assert!(one == other, "the outputs differ");
-    derived.map(|length| one[..length].to_vec())
+    turned.map(|length| one[..length].to_vec())
 }
 
-/// The tables of a valid timetable, on which both sides agree whatever the room.
-fn same_answers(image: &[u8]) -> Vec<u8> {
-    let tables = both(image, ROOM).expect("the timetable is valid");
-    assert_eq!(both(image, tables.len()).as_ref(), Ok(&tables));
+/// What a good image is turned into, on which all sides agree whatever the room.
+fn same_answers(sides: &Sides, image: &[u8]) -> Vec<u8> {
+    let result = same(sides, image, ROOM).expect("the image is good");
+    assert_eq!(same(sides, image, result.len()).as_ref(), Ok(&result));
     let refusal = Refusal {
         number: 20,
         place: 0,
     };
-    assert_eq!(both(image, tables.len() - 1), Err(refusal));
-    tables
+    assert_eq!(same(sides, image, result.len() - 1), Err(refusal));
+    result
 }
 
-/// Demands that both sides agree on the image with a byte changed, here and there.
-fn same_refusals(chance: &mut Chance, image: &[u8]) {
-    for _ in 0..DAMAGES {
+/// All sides refuse the same in truncated images and in such with a changed byte.
+fn same_refusals(sides: &Sides, chance: &mut Chance, image: &[u8]) {
+    for i in 0..DAMAGES {
+        let _ = same(sides, &image[..image.len() * i / DAMAGES], ROOM);
         let mut damaged = image.to_vec();
         damaged[chance.index(image.len())] ^= 1 << chance.below(8);
-        let _ = both(&damaged, ROOM);
+        let _ = same(sides, &damaged, ROOM);
     }
 }
 
@@ -212,19 +274,23 @@ fn irregularities(tables: &[u8], n: usize) -> (usize, usize) {
 
 // ---- Time ----
 
-/// The medians of both sides in nanoseconds a call, measured in turn.
-fn side_by_side(mut archive: impl FnMut() -> bool, mut fast: impl FnMut() -> bool) -> [f64; 2] {
-    let calls = [calls_in_a_round(&mut archive), calls_in_a_round(&mut fast)];
-    let mut times = [Vec::new(), Vec::new()];
+/// A call that is to succeed.
+type Call<'a> = Box<dyn FnMut() -> bool + 'a>;
+
+/// The medians of all sides in nanoseconds a call, measured in turn.
+fn side_by_side(mut sides: Vec<Call>) -> Vec<f64> {
+    let calls: Vec<u32> = sides.iter_mut().map(calls_in_a_round).collect();
+    let mut times = vec![Vec::new(); sides.len()];
     for _ in 0..ROUNDS {
-        times[0].push(round(&mut archive, calls[0]));
-        times[1].push(round(&mut fast, calls[1]));
+        for (i, side) in sides.iter_mut().enumerate() {
+            times[i].push(round(side, calls[i]));
+        }
     }
-    times.map(median)
+    times.into_iter().map(median).collect()
 }
 
 /// How many calls take at least the shortest round.
-fn calls_in_a_round(call: &mut impl FnMut() -> bool) -> u32 {
+fn calls_in_a_round(call: &mut Call) -> u32 {
     let mut calls = 1;
     while round(call, calls) * f64::from(calls) < SHORTEST_ROUND.as_nanos() as f64 {
         calls *= 2;
@@ -233,7 +299,7 @@ fn calls_in_a_round(call: &mut impl FnMut() -> bool) -> u32 {
 }
 
 /// Nanoseconds a call, over so many calls.
-fn round(call: &mut impl FnMut() -> bool, calls: u32) -> f64 {
+fn round(call: &mut Call, calls: u32) -> f64 {
     let begin = Instant::now();
     for _ in 0..calls {
         assert!(black_box(call()), "a call that was good is refused");

@@ -5,10 +5,10 @@ set -eu
 
 tests=$(cd "$(dirname "$0")" && pwd)
 archive=${HV_ARCHIVE:-$tests/../target/staticlib/libhervantyu.a}
+test -f "$archive" || { echo "no archive at $archive" >&2; exit 1; }
+. "$tests/host.sh"
 built=$(mktemp -d)
 trap 'rm -rf "$built"' EXIT
 
-test -f "$archive" || { echo "no archive at $archive" >&2; exit 1; }
-
-rustc --edition 2021 -O -D warnings -C link-arg="$archive" -o "$built/bench" "$tests/bench.rs"
-"$built/bench"
+compile_rust --edition 2021 -O -D warnings -C link-arg="$archive" -o "$built/bench" "$tests/bench.rs"
+run "$built/bench"

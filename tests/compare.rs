@@ -1,7 +1,9 @@
-//! Compares the archive with the independent implementation over random cases: `compare SEED COUNT`.
-//! It prints every difference, then how often each operation gave each number.
+//! Compares the archive with the independent implementation over every table image of some small
+//! sets, then over random cases: `compare SEED COUNT`. It prints every difference, then how often
+//! each operation gave each number over the random cases.
 
 mod archive;
+mod every;
 mod written;
 
 #[path = "independent/cases.rs"]
@@ -25,13 +27,13 @@ mod rides;
 mod sets;
 
 use form::{image_from, image_text, refusal_text, task_from};
-use independent::Task;
+use independent::{Refusal, Task};
 use std::collections::{BTreeMap, BTreeSet};
 use std::process::ExitCode;
 use written::{archive_answer, operation, OPERATIONS};
 
 /// For each operation the numbers that it can give.
-const NUMBERS: [(&str, &[u32]); 3] = [
+const NUMBERS: [(&str, &[u32]); 5] = [
     ("set", &[5, 6, 7, 8, 9]),
     (
         "check1",
@@ -41,6 +43,8 @@ const NUMBERS: [(&str, &[u32]); 3] = [
         "derive",
         &[1, 2, 3, 4, 5, 6, 7, 8, 9, 10, 11, 12, 13, 14, 15, 16, 20],
     ),
+    ("check2", &[1, 2, 3, 4, 5, 6, 7, 8, 9, 10, 17, 18, 19]),
+    ("rebuild", &[1, 2, 3, 4, 5, 6, 7, 8, 9, 10, 17, 18, 19, 20]),
 ];
 
 /// For an operation and a number, 0 where nothing is refused: how often it came and at which places.
@@ -53,6 +57,11 @@ fn main() -> ExitCode {
         eprintln!("usage: compare SEED COUNT");
         return ExitCode::from(2);
     };
+    let small = every::compare_all();
+    println!(
+        "{} table images of small sets, {} accepted, {} differ",
+        small.images, small.accepted, small.differ
+    );
     let mut seen = Seen::new();
     let differ = compare(seed, count, &mut seen);
     print_table(&seen);
@@ -61,7 +70,8 @@ fn main() -> ExitCode {
         println!("{operation} never gave {number}");
     }
     println!("{count} cases, {differ} differ");
-    ExitCode::from(u8::from(differ > 0 || !missing.is_empty()))
+    let good = small.differ == 0 && differ == 0 && missing.is_empty();
+    ExitCode::from(u8::from(!good))
 }
 
 /// Compares that many cases and gives back how many differ.
@@ -97,8 +107,15 @@ fn independent_answer(case: &str) -> Option<String> {
     let words: Vec<&str> = case.split_whitespace().collect();
     match words[..] {
         ["set", n, ref tasks @ ..] => set_answer(n, tasks),
-        ["check1", image] => check_answer(image),
-        ["derive", room, image] => derive_answer(room, image),
+        ["check1", image] => check_answer(independent::check_timetable(&image_from(image)?)),
+        ["check2", image] => check_answer(independent::check_tables(&image_from(image)?)),
+        ["derive", room, image] => {
+            turn_answer(independent::derive(&image_from(image)?, room.parse().ok()?))
+        }
+        ["rebuild", room, image] => turn_answer(independent::rebuild(
+            &image_from(image)?,
+            room.parse().ok()?,
+        )),
         _ => None,
     }
 }
@@ -115,20 +132,18 @@ fn set_answer(n: &str, tasks: &[&str]) -> Option<String> {
     })
 }
 
-fn check_answer(image: &str) -> Option<String> {
-    Some(match independent::check_timetable(&image_from(image)?) {
+fn check_answer<T>(answer: Result<T, Refusal>) -> Option<String> {
+    Some(match answer {
         Ok(_) => "ok".to_string(),
         Err(refusal) => refusal_text(refusal),
     })
 }
 
-fn derive_answer(room: &str, image: &str) -> Option<String> {
-    Some(
-        match independent::derive(&image_from(image)?, room.parse().ok()?) {
-            Ok(result) => format!("ok {} {}", result.len(), image_text(&result)),
-            Err(refusal) => refusal_text(refusal),
-        },
-    )
+fn turn_answer(answer: Result<Vec<u8>, Refusal>) -> Option<String> {
+    Some(match answer {
+        Ok(result) => format!("ok {} {}", result.len(), image_text(&result)),
+        Err(refusal) => refusal_text(refusal),
+    })
 }
 
 // ---- What came ----

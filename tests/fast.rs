@@ -1,5 +1,8 @@
-//! Checking a timetable image and deriving its tables, written for speed under the archive's
-//! limits: no heap, records read in place, safe code alone.
+//! Checking and deriving, checking tables and rebuilding, written for speed under the archive's
+//! limits: no heap, records read in place, no more memory than a few numbers for each task, every
+//! decision reads the records at all current offsets, safe code alone.
+
+pub mod unlimited;
 
 #[derive(Clone, Copy, PartialEq, Eq, Debug)]
 pub struct Refusal {
@@ -19,38 +22,55 @@ const ID: usize = 8;
 const PV: usize = 9;
 const EN: usize = 6;
 
+const TIMETABLE: u8 = 1;
+const TABLES: u8 = 2;
+
 /// Checks a timetable image.
 #[inline(never)]
 pub fn check_timetable(image: &[u8]) -> Result<(), Refusal> {
-    let (tks, rest) = head(image)?;
-    scan(jobs_of(tks, rest)?, rest, |_, _| {})?;
+    let (tks, rest) = head(image, TIMETABLE)?;
+    scan(jobs_of(tks, rest, frame_entries)?, rest, |_, _| {})?;
     Ok(())
 }
 
 /// Derives the table image of a timetable image and gives back its length.
 #[inline(never)]
 pub fn derive(image: &[u8], out: &mut [u8]) -> Result<usize, Refusal> {
-    let (tks, rest) = head(image)?;
-    let jobs = jobs_of(tks, rest)?;
-    let (entries, found) = if jobs.n <= 3 {
-        find::<1>(&jobs, rest)?
+    let (tks, rest) = head(image, TIMETABLE)?;
+    let jobs = jobs_of(tks, rest, frame_entries)?;
+    if jobs.n <= 3 {
+        derive_entries::<1>(image, jobs, rest, out)
     } else {
-        find::<6>(&jobs, rest)?
-    };
-    let (idles, inversions) = (found.idles.count(), found.inversions.count());
-    let front = TS + tks.len();
-    let length = front + ID * idles + PV * inversions + EN;
+        derive_entries::<6>(image, jobs, rest, out)
+    }
+}
+
+/// Checks a table image.
+#[inline(never)]
+pub fn check_tables(image: &[u8]) -> Result<(), Refusal> {
+    replay(&tables_of(image)?, |_, _| {})
+}
+
+/// Rebuilds the timetable image of a table image and gives back its length.
+#[inline(never)]
+pub fn rebuild(image: &[u8], out: &mut [u8]) -> Result<usize, Refusal> {
+    let tables = tables_of(image)?;
+    replay(&tables, |_, _| {})?;
+    let front = TS + TK * tables.jobs.n;
+    let length = front + SL * tables.jobs.all + EN;
     let Some(out) = out.get_mut(..length) else {
         return refuse(20, 0);
     };
-    let (head, body) = out.split_at_mut(front);
-    let (ids, body) = body.split_at_mut(ID * idles);
-    let (pvs, en) = body.split_at_mut(PV * inversions);
-    head.copy_from_slice(&image[..front]);
-    head[3] = 2;
-    en[..2].copy_from_slice(b"EN");
-    en[2..].copy_from_slice(&((1 + jobs.n + idles + inversions) as u32).to_be_bytes());
-    write(jobs, entries, ids, pvs, &found);
+    let (sls, en) = out[front..].split_at_mut(SL * tables.jobs.all);
+    put_en(en, 1 + tables.jobs.n + tables.jobs.all);
+    let mut sls = sls.chunks_exact_mut(SL);
+    replay(&tables, |slot, start| {
+        if let Some(sl) = sls.next() {
+            put_sl(sl, slot as u8, start);
+        }
+    })?;
+    out[..front].copy_from_slice(&image[..front]);
+    out[3] = TIMETABLE;
     Ok(length)
 }
 
@@ -63,12 +83,12 @@ fn refuse<T>(number: u32, place: usize) -> Result<T, Refusal> {
 // ---- Framing ----
 
 /// The TK records of an image and the bytes behind them: numbers 1 to 5.
-fn head(image: &[u8]) -> Result<(&[u8], &[u8]), Refusal> {
+fn head(image: &[u8], kind: u8) -> Result<(&[u8], &[u8]), Refusal> {
     let (ts, mut rest) = record::<TS>(image, b"TS", 0)?;
     if ts[2] != 1 {
         return refuse(3, 0);
     }
-    if ts[3] != 1 {
+    if ts[3] != kind {
         return refuse(4, 0);
     }
     let n = usize::from(ts[4]);
@@ -96,16 +116,39 @@ fn record<'a, const L: usize>(
     }
 }
 
-/// The framing from an SL or EN on that has this index: numbers 1, 2 and 10.
-fn frame_rest(rest: &[u8], index: usize) -> Result<(), Refusal> {
-    let whole = rest.chunks_exact(SL).take_while(|sl| sl.starts_with(b"SL"));
-    let count = whole.count();
-    frame_end(&rest[SL * count..], index + count)
+/// How many whole records of L bytes with this mark are at the front.
+fn whole<const L: usize>(bytes: &[u8], mark: &[u8; 2]) -> usize {
+    let records = bytes.chunks_exact(L);
+    records
+        .take_while(|record| record.starts_with(mark))
+        .count()
 }
 
-/// The framing behind the last whole SL: numbers 1, 2 and 10.
-fn frame_end(rest: &[u8], index: usize) -> Result<(), Refusal> {
-    if rest.starts_with(b"SL") {
+/// The framing from an SL or EN on that has this index: numbers 1, 2 and 10.
+fn frame_entries(rest: &[u8], index: usize) -> Result<(), Refusal> {
+    let count = whole::<SL>(rest, b"SL");
+    frame_end(&rest[SL * count..], b"SL", index + count)
+}
+
+/// The framing from an ID, PV or EN on that has this index: numbers 1, 2 and 10.
+fn frame_tables(rest: &[u8], index: usize) -> Result<(), Refusal> {
+    let count = whole::<ID>(rest, b"ID");
+    let (rest, index) = (&rest[ID * count..], index + count);
+    if rest.starts_with(b"ID") {
+        return refuse(1, index);
+    }
+    frame_inversions(rest, index)
+}
+
+/// The framing from a PV or EN on that has this index: numbers 1, 2 and 10.
+fn frame_inversions(rest: &[u8], index: usize) -> Result<(), Refusal> {
+    let count = whole::<PV>(rest, b"PV");
+    frame_end(&rest[PV * count..], b"PV", index + count)
+}
+
+/// The framing behind the last whole record with this mark: numbers 1, 2 and 10.
+fn frame_end(rest: &[u8], mark: &[u8; 2], index: usize) -> Result<(), Refusal> {
+    if rest.starts_with(mark) {
         return refuse(1, index);
     }
     let (en, behind) = record::<EN>(rest, b"EN", index)?;
@@ -128,6 +171,7 @@ fn four(bytes: &[u8], at: usize) -> u32 {
 #[derive(Clone)]
 struct Jobs {
     n: usize,
+    all: usize,
     hyperperiod: u32,
     tasks: [Task; SLOTS],
 }
@@ -177,21 +221,27 @@ fn judge_set(tks: &[u8]) -> Result<Jobs, Refusal> {
     }
     let n = tks.len() / TK;
     let counts = tasks[..n].iter().map(|task| hyperperiod / task.period);
-    if counts.sum::<u32>() > MOST_JOBS {
+    let all = counts.sum::<u32>();
+    if all > MOST_JOBS {
         return refuse(9, 0);
     }
     Ok(Jobs {
         n,
+        all: all as usize,
         hyperperiod,
         tasks,
     })
 }
 
 /// The jobs of a set; a bad one is refused only where the framing behind the TK records is right.
-fn jobs_of(tks: &[u8], rest: &[u8]) -> Result<Jobs, Refusal> {
+fn jobs_of(
+    tks: &[u8],
+    rest: &[u8],
+    frame: fn(&[u8], usize) -> Result<(), Refusal>,
+) -> Result<Jobs, Refusal> {
     let jobs = judge_set(tks);
     if jobs.is_err() {
-        frame_rest(rest, 1 + tks.len() / TK)?;
+        frame(rest, 1 + tks.len() / TK)?;
     }
     jobs
 }
@@ -235,7 +285,7 @@ fn scan(
         let (task, start) = (usize::from(sl[2]), four(sl, 3));
         if !jobs.allow(task, start, free) {
             let place = first + (records.len() - rest.len()) / SL;
-            frame_rest(rest, place)?;
+            frame_entries(rest, place)?;
             return refuse(jobs.broken_by(task, start, free), place);
         }
         let slot = task % SLOTS;
@@ -246,7 +296,7 @@ fn scan(
         rest = behind;
     }
     let entries = &records[..records.len() - rest.len()];
-    frame_end(rest, first + entries.len() / SL)?;
+    frame_end(rest, b"SL", first + entries.len() / SL)?;
     match jobs.missing() {
         Some(task) => refuse(16, task),
         None => Ok(entries),
@@ -292,56 +342,36 @@ impl Jobs {
 
 // ---- Irregularities ----
 
-/// One bit for each entry.
-struct Bits([u64; MOST_JOBS as usize / 64]);
-
-impl Bits {
-    const NONE: Bits = Bits([0; MOST_JOBS as usize / 64]);
-
-    #[inline(always)]
-    fn add(&mut self, index: usize, bit: bool) {
-        self.0[index / 64 % 64] |= u64::from(bit) << (index % 64);
-    }
-
-    #[inline(always)]
-    fn has(&self, index: usize) -> bool {
-        self.0[index / 64 % 64] >> (index % 64) & 1 == 1
-    }
-
-    fn count(&self) -> usize {
-        self.0.iter().map(|word| word.count_ones() as usize).sum()
-    }
-}
-
-/// The entries that come after a forced idle, those that are inversions, and how many of these
-/// each task has.
-struct Found {
-    idles: Bits,
-    inversions: Bits,
-    of_task: [usize; SLOTS],
-}
-
-/// Checks the entries and finds their irregularities.
+/// Checks the entries, counts their irregularities, and goes over the entries again to write them.
 #[inline(always)]
-fn find<'a, const WORDS: usize>(
-    jobs: &Jobs,
-    records: &'a [u8],
-) -> Result<(&'a [u8], Found), Refusal> {
-    let mut found = Found {
-        idles: Bits::NONE,
-        inversions: Bits::NONE,
-        of_task: [0; SLOTS],
-    };
-    let mut releases = Releases::<WORDS>::new(jobs);
-    let mut index = 0;
+fn derive_entries<const WORDS: usize>(
+    image: &[u8],
+    jobs: Jobs,
+    records: &[u8],
+    out: &mut [u8],
+) -> Result<usize, Refusal> {
+    let mut releases = Releases::<WORDS>::new(&jobs);
+    let mut idles = 0;
+    let mut of_task = [0; SLOTS];
     let entries = scan(jobs.clone(), records, |jobs, entry| {
         let (idle, inversion) = releases.step(entry, jobs.tasks[entry.slot].period);
-        found.idles.add(index, idle);
-        found.inversions.add(index, inversion);
-        found.of_task[entry.slot] += usize::from(inversion);
-        index += 1;
+        idles += usize::from(idle);
+        of_task[entry.slot] += usize::from(inversion);
     })?;
-    Ok((entries, found))
+    let inversions = of_task.iter().sum::<usize>();
+    let front = TS + TK * jobs.n;
+    let length = front + ID * idles + PV * inversions + EN;
+    let Some(out) = out.get_mut(..length) else {
+        return refuse(20, 0);
+    };
+    let (head, body) = out.split_at_mut(front);
+    let (ids, body) = body.split_at_mut(ID * idles);
+    let (pvs, en) = body.split_at_mut(PV * inversions);
+    head.copy_from_slice(&image[..front]);
+    head[3] = TABLES;
+    put_en(en, 1 + jobs.n + idles + inversions);
+    write::<WORDS>(jobs, entries, ids, pvs, first_places(&of_task, 0));
+    Ok(length)
 }
 
 /// The releases of the tasks' next jobs, three to a word: one subtraction compares all three with
@@ -390,22 +420,31 @@ impl<const WORDS: usize> Releases<WORDS> {
     }
 }
 
-/// Writes the ID and the PV records of a valid timetable.
-fn write(mut jobs: Jobs, entries: &[u8], ids: &mut [u8], pvs: &mut [u8], found: &Found) {
+/// Writes the ID and the PV records of a valid timetable; `at` is where each task's first PV goes.
+#[inline(always)]
+fn write<const WORDS: usize>(
+    mut jobs: Jobs,
+    entries: &[u8],
+    ids: &mut [u8],
+    pvs: &mut [u8],
+    mut at: [usize; SLOTS],
+) {
+    let mut releases = Releases::<WORDS>::new(&jobs);
     let mut ids = ids.chunks_exact_mut(ID);
-    let mut at = first_places(&found.of_task);
     let mut next = [0u16; SLOTS];
     let mut free = 0;
-    for (index, sl) in entries.chunks_exact(SL).enumerate() {
+    for sl in entries.chunks_exact(SL) {
         let (slot, start) = (usize::from(sl[2]) % SLOTS, four(sl, 3));
-        if found.idles.has(index) {
+        let entry = Entry { slot, start, free };
+        let (idle, inversion) = releases.step(&entry, jobs.tasks[slot].period);
+        if idle {
             let earliest = free.max(jobs.least_release());
             if let Some(id) = ids.next() {
                 put_id(id, earliest, start - earliest);
             }
         }
         let task = &mut jobs.tasks[slot];
-        if found.inversions.has(index) {
+        if inversion {
             let pv = &mut pvs[at[slot]..][..PV];
             put_pv(pv, sl[2], next[slot], start - task.release);
             at[slot] += PV;
@@ -416,24 +455,238 @@ fn write(mut jobs: Jobs, entries: &[u8], ids: &mut [u8], pvs: &mut [u8], found: 
     }
 }
 
-/// Where the first PV of each task stands.
-fn first_places(counts: &[usize; SLOTS]) -> [usize; SLOTS] {
-    let mut sum = 0;
+/// Where the first PV of each task goes, given how many each has and where the first of all goes.
+fn first_places(counts: &[usize; SLOTS], first: usize) -> [usize; SLOTS] {
+    let mut place = first;
     counts.map(|count| {
-        let place = sum;
-        sum += PV * count;
-        place
+        let first = place;
+        place += PV * count;
+        first
     })
 }
 
+// ---- Tables ----
+
+const ID_MARK: u64 = u16::from_be_bytes(*b"ID") as u64;
+const PV_MARK: u64 = u16::from_be_bytes(*b"PV") as u64;
+
+/// A table image whose framing, set and records are right: where its first ID and its first PV
+/// are, and for each task its first PV, else the first of a higher task, else EN.
+struct Tables<'a> {
+    image: &'a [u8],
+    jobs: Jobs,
+    ids: usize,
+    pvs: usize,
+    of_task: [usize; SLOTS],
+}
+
+/// Goes once over the records of a table image: numbers 1 to 10, then 17.
+fn tables_of(image: &[u8]) -> Result<Tables<'_>, Refusal> {
+    let (tks, rest) = head(image, TABLES)?;
+    let jobs = jobs_of(tks, rest, frame_tables)?;
+    let ids = image.len() - rest.len();
+    let rest = idles(&jobs, rest)?;
+    let pvs = image.len() - rest.len();
+    let index = 1 + jobs.n + (pvs - ids) / ID;
+    if rest.starts_with(b"ID") {
+        return refuse(1, index);
+    }
+    let counts = inversions(&jobs, rest, index)?;
+    let of_task = first_places(&counts, pvs);
+    Ok(Tables {
+        image,
+        jobs,
+        ids,
+        pvs,
+        of_task,
+    })
+}
+
+/// The bytes behind the ID records.
+fn idles<'a>(jobs: &Jobs, records: &'a [u8]) -> Result<&'a [u8], Refusal> {
+    let mut rest = records;
+    let mut least = 0;
+    while let Some((id, behind)) = rest.split_first_chunk::<ID>() {
+        let word = u64::from_be_bytes(*id);
+        if word >> 48 != ID_MARK {
+            break;
+        }
+        let (start, length) = (word >> 16 & 0xFFFF_FFFF, word & 0xFFFF);
+        if start < least || length < 1 || start + length >= u64::from(jobs.hyperperiod) {
+            let place = 1 + jobs.n + (records.len() - rest.len()) / ID;
+            frame_tables(rest, place)?;
+            return refuse(17, place);
+        }
+        least = start + length + 1;
+        rest = behind;
+    }
+    Ok(rest)
+}
+
+/// How many PV records each task has, the first record having this index.
+fn inversions(jobs: &Jobs, records: &[u8], index: usize) -> Result<[usize; SLOTS], Refusal> {
+    let mut counts = [0; SLOTS];
+    let mut rest = records;
+    let mut least = 0;
+    while let Some((pv, behind)) = rest.split_first_chunk::<PV>() {
+        let (key, delay) = key_and_delay(pv);
+        if key >> 24 != PV_MARK {
+            break;
+        }
+        let (task, job) = ((key >> 16) as u8, key as u16);
+        if key < least || !jobs.allow_inversion(task, job, delay) {
+            let place = index + (records.len() - rest.len()) / PV;
+            frame_inversions(rest, place)?;
+            return refuse(17, place);
+        }
+        counts[usize::from(task) % SLOTS] += 1;
+        least = key + 1;
+        rest = behind;
+    }
+    frame_end(rest, b"PV", index + (records.len() - rest.len()) / PV)?;
+    Ok(counts)
+}
+
+/// The mark, the task and the job of a PV as one number, and its delay.
+#[inline(always)]
+fn key_and_delay(pv: &[u8; PV]) -> (u64, u32) {
+    let [front @ .., last] = *pv;
+    let word = u64::from_be_bytes(front);
+    (word >> 24, (word as u32) << 8 | u32::from(last))
+}
+
+impl Jobs {
+    /// Whether a PV is in its range; nothing has started.
+    #[inline(always)]
+    fn allow_inversion(&self, task: u8, job: u16, delay: u32) -> bool {
+        let Some(task) = self.tasks.get(usize::from(task)) else {
+            return false;
+        };
+        let release = task.release + u32::from(job) * task.period;
+        release < self.hyperperiod && delay <= task.slack
+    }
+}
+
+// ---- Replay ----
+
+/// A task's next job while the tables are replayed: its release, the offset of the task's next PV,
+/// and what its own PV would hold behind the first byte, but for the delay.
+#[derive(Clone, Copy)]
+struct Next {
+    release: u32,
+    pv: usize,
+    own: u64,
+}
+
+/// Replays the tables and calls `each` for every start: number 18, then 19.
+#[inline(always)]
+fn replay(tables: &Tables, mut each: impl FnMut(usize, u32)) -> Result<(), Refusal> {
+    let Tables { image, jobs, .. } = tables;
+    let mut next: [Next; SLOTS] = std::array::from_fn(|slot| Next {
+        release: jobs.tasks[slot].release,
+        pv: tables.of_task[slot],
+        own: u64::from(b'V') << 56 | (slot as u64) << 48,
+    });
+    let next = &mut next[..jobs.n];
+    let mut id = tables.ids;
+    let mut useless = usize::MAX;
+    let mut free = 0;
+    let mut started = 0;
+    while started < jobs.all {
+        let releases = next.iter().map(|next| next.release);
+        let instant = releases.fold(u32::MAX, u32::min).max(free);
+        let (waiting, due) = waiting_and_due(image, next, instant);
+        if let Some(length) = idle_at(image, id, instant) {
+            id += ID;
+            free = instant + length;
+            continue;
+        }
+        let chosen = if due != 0 { due } else { waiting };
+        let slot = chosen.trailing_zeros() as usize % SLOTS;
+        let (task, next) = (&jobs.tasks[slot], &mut next[slot]);
+        if instant - next.release > task.slack {
+            return refuse(18, started);
+        }
+        if inversion_at(image, next.pv) >> 32 == next.own >> 32 {
+            let lower_waits = waiting & ((1 << slot) - 1) != 0;
+            if !lower_waits {
+                useless = useless.min(next.pv);
+            }
+            next.pv += PV;
+        }
+        next.own += 1 << 32;
+        next.release += task.period;
+        if next.release >= jobs.hyperperiod {
+            next.release = u32::MAX;
+        }
+        each(slot, instant);
+        free = instant + task.time;
+        started += 1;
+    }
+    all_used(tables, id, useless)
+}
+
+/// The tasks that wait and those whose PV is for this instant, one bit for each.
+#[inline(always)]
+fn waiting_and_due(image: &[u8], next: &[Next], instant: u32) -> (u32, u32) {
+    let (mut waiting, mut due) = (0, 0);
+    for (slot, next) in next.iter().enumerate() {
+        let wanted = next.own | u64::from(instant.wrapping_sub(next.release));
+        waiting |= u32::from(next.release <= instant) << slot;
+        due |= u32::from(inversion_at(image, next.pv) == wanted) << slot;
+    }
+    (waiting, due)
+}
+
+/// What the PV at an offset holds behind its first byte; 0 where EN is.
+#[inline(always)]
+fn inversion_at(image: &[u8], at: usize) -> u64 {
+    match image.get(at + 1..at + PV) {
+        Some(&[a, b, c, d, e, f, g, h]) => u64::from_be_bytes([a, b, c, d, e, f, g, h]),
+        _ => 0,
+    }
+}
+
+/// The length of the idle at the ID offset, if it is one from this instant on.
+#[inline(always)]
+fn idle_at(image: &[u8], at: usize, instant: u32) -> Option<u32> {
+    let (id, _) = image[at..].split_first_chunk()?;
+    let word = u64::from_be_bytes(*id);
+    (word >> 16 == ID_MARK << 32 | u64::from(instant)).then_some(word as u32 & 0xFFFF)
+}
+
+/// Number 19 for the first ID that was not used, else for the first PV that changed nothing.
+fn all_used(tables: &Tables, id: usize, useless: usize) -> Result<(), Refusal> {
+    let first = 1 + tables.jobs.n;
+    if id < tables.pvs {
+        return refuse(19, first + (id - tables.ids) / ID);
+    }
+    if useless < tables.image.len() {
+        let idles = (tables.pvs - tables.ids) / ID;
+        return refuse(19, first + idles + (useless - tables.pvs) / PV);
+    }
+    Ok(())
+}
+
+// ---- Records ----
+
+fn put_en(en: &mut [u8], number: usize) {
+    en[..2].copy_from_slice(b"EN");
+    en[2..].copy_from_slice(&(number as u32).to_be_bytes());
+}
+
+fn put_sl(sl: &mut [u8], task: u8, start: u32) {
+    sl[..3].copy_from_slice(&[b'S', b'L', task]);
+    sl[3..].copy_from_slice(&start.to_be_bytes());
+}
+
 fn put_id(id: &mut [u8], start: u32, length: u32) {
-    let mark = u64::from(u16::from_be_bytes(*b"ID")) << 48;
-    id.copy_from_slice(&(mark | u64::from(start) << 16 | u64::from(length)).to_be_bytes());
+    id.copy_from_slice(&(ID_MARK << 48 | u64::from(start) << 16 | u64::from(length)).to_be_bytes());
 }
 
 fn put_pv(pv: &mut [u8], task: u8, job: u16, delay: u32) {
-    let mark = u64::from(u16::from_be_bytes(*b"PV")) << 48;
-    let front = mark | u64::from(task) << 40 | u64::from(job) << 24 | u64::from(delay) >> 8;
+    let front =
+        PV_MARK << 48 | u64::from(task) << 40 | u64::from(job) << 24 | u64::from(delay) >> 8;
     pv[..8].copy_from_slice(&front.to_be_bytes());
     pv[8] = delay as u8;
 }

@@ -1,9 +1,9 @@
 //! Cases in their written form, `OP ARGUMENTS [=> ANSWER]`, and what the archive answers to them.
 
-use crate::archive::{check_timetable, derive, judge_set, Refusal, SLOTS};
+use crate::archive::{check_tables, check_timetable, derive, judge_set, rebuild, Refusal, SLOTS};
 
 /// The operations that the archive has.
-pub const OPERATIONS: [&str; 3] = ["set", "check1", "derive"];
+pub const OPERATIONS: [&str; 5] = ["set", "check1", "check2", "derive", "rebuild"];
 
 /// The operation of a case.
 pub fn operation(case: &str) -> &str {
@@ -15,8 +15,14 @@ pub fn archive_answer(case: &str) -> Result<String, String> {
     let words: Vec<&str> = case.split_whitespace().collect();
     let known = match words[..] {
         ["set", n, ref tasks @ ..] => set_answer(case, n, tasks),
-        ["check1", image] => check_answer(case, image),
-        ["derive", room, image] => derive_answer(case, room, image),
+        ["check1", image] => check_answer(image, |image| check_timetable(&case, image)),
+        ["check2", image] => check_answer(image, |image| check_tables(&case, image)),
+        ["derive", room, image] => {
+            turn_answer(room, image, |room, image| derive(&case, room, image))
+        }
+        ["rebuild", room, image] => {
+            turn_answer(room, image, |room, image| rebuild(&case, room, image))
+        }
         _ if OPERATIONS.contains(&operation(case)) => None,
         _ => {
             return Err(format!(
@@ -36,26 +42,28 @@ fn set_answer(case: &str, n: &str, tasks: &[&str]) -> Option<String> {
     if tasks.len() > SLOTS {
         return None;
     }
-    Some(match judge_set(case, n.parse().ok()?, &tasks) {
+    Some(match judge_set(&case, n.parse().ok()?, &tasks) {
         Ok((hyperperiod, jobs)) => format!("ok {hyperperiod} {jobs}"),
         Err(refusal) => refusal_text(refusal),
     })
 }
 
-fn check_answer(case: &str, image: &str) -> Option<String> {
-    Some(match check_timetable(case, &bytes_from(image)?) {
+fn check_answer(image: &str, check: impl FnOnce(&[u8]) -> Result<(), Refusal>) -> Option<String> {
+    Some(match check(&bytes_from(image)?) {
         Ok(()) => "ok".to_string(),
         Err(refusal) => refusal_text(refusal),
     })
 }
 
-fn derive_answer(case: &str, room: &str, image: &str) -> Option<String> {
-    Some(
-        match derive(case, room.parse().ok()?, &bytes_from(image)?) {
-            Ok(result) => format!("ok {} {}", result.len(), text_of(&result)),
-            Err(refusal) => refusal_text(refusal),
-        },
-    )
+fn turn_answer(
+    room: &str,
+    image: &str,
+    turn: impl FnOnce(usize, &[u8]) -> Result<Vec<u8>, Refusal>,
+) -> Option<String> {
+    Some(match turn(room.parse().ok()?, &bytes_from(image)?) {
+        Ok(result) => format!("ok {} {}", result.len(), text_of(&result)),
+        Err(refusal) => refusal_text(refusal),
+    })
 }
 
 fn refusal_text(refusal: Refusal) -> String {

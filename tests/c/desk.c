@@ -1,5 +1,5 @@
-/* The examples P1 to P4 and P9 to P12 of document 01, asked of the archive from C through its header alone: numbers, places and bytes, and that every call
- * leaves the rest of what it was lent, and the guards around it, as they were. */
+/* The examples P1 to P12 of document 01, asked of the archive from C through its header alone: numbers, places and bytes, and that every call leaves the rest
+ * of what it was lent, and the guards around it, as they were. */
 #include "hervantyu.h"
 
 #include <stdio.h>
@@ -81,31 +81,41 @@ struct image {
     uint8_t bytes[MOST];
 };
 
-static void expect_check(const char *example, const struct image *image, uint32_t number, uint64_t place)
+/* What an image of a kind is asked: to be checked, and to be turned into its other kind. */
+struct kind {
+    uint32_t (*check)(const uint8_t *restrict, size_t, uint64_t *restrict);
+    uint32_t (*turn)(const uint8_t *restrict, size_t, uint8_t *restrict, size_t, uint64_t *restrict, uint64_t *restrict);
+};
+
+static const struct kind timetable_kind = {hv_check_timetable, hv_derive};
+static const struct kind table_kind = {hv_check_tables, hv_rebuild};
+
+static void expect_check(const char *example, const struct kind *kind, const struct image *image, uint32_t number, uint64_t place)
 {
     struct bytes lent;
     struct wide stored = lend_wide();
     lend(&lent, image->bytes, image->length);
-    check(hv_check_timetable(lent.now + GUARD, image->length, &stored.now) == number, example, "checking gives another number");
+    check(kind->check(lent.now + GUARD, image->length, &stored.now) == number, example, "checking gives another number");
     check(wide_is(&stored, place), example, "checking stores another place");
     check(kept_behind(&lent, 0), example, "checking changes the image");
 }
 
 /* Where a refusal is expected, no result is. */
-static void expect_derive(const char *example, const struct image *image, size_t room, uint32_t number, uint64_t place, const struct image *result)
+static void expect_turn(const char *example, const struct kind *kind, const struct image *image, size_t room, uint32_t number, uint64_t place,
+                        const struct image *result)
 {
     struct bytes lent, out;
     struct wide stored = lend_wide(), length = lend_wide();
     size_t written = result ? result->length : 0;
     lend(&lent, image->bytes, image->length);
     lend(&out, image->bytes, 0);
-    check(hv_derive(lent.now + GUARD, image->length, out.now + GUARD, room, &stored.now, &length.now) == number, example, "deriving gives another number");
-    check(wide_is(&stored, place), example, "deriving stores another place");
-    check(wide_is(&length, result ? written : wide_filling()), example, "deriving stores another length");
-    check(kept_behind(&lent, 0), example, "deriving changes the image");
-    check(kept_behind(&out, written), example, "deriving changes the output where it is to be kept");
+    check(kind->turn(lent.now + GUARD, image->length, out.now + GUARD, room, &stored.now, &length.now) == number, example, "turning gives another number");
+    check(wide_is(&stored, place), example, "turning stores another place");
+    check(wide_is(&length, result ? written : wide_filling()), example, "turning stores another length");
+    check(kept_behind(&lent, 0), example, "turning changes the image");
+    check(kept_behind(&out, written), example, "turning changes the output where it is to be kept");
     if (result)
-        check(memcmp(out.now + GUARD, result->bytes, written) == 0, example, "deriving writes other bytes");
+        check(memcmp(out.now + GUARD, result->bytes, written) == 0, example, "turning writes other bytes");
 }
 
 /* Where a refusal is expected, hyperperiod and jobs are 0. */
@@ -127,30 +137,50 @@ static void expect_judge(const char *example, uint32_t n, const uint32_t (*tasks
     check(memcmp(&before, &lent, sizeof lent) == 0, example, "judging changes the tasks");
 }
 
-/* A timetable that is refused is refused so whatever the room. */
-static void expect_refused(const char *example, const struct image *image, uint32_t number, uint64_t place)
+/* An image that is refused is refused so whatever the room. */
+static void expect_refused(const char *example, const struct kind *kind, const struct image *image, uint32_t number, uint64_t place)
 {
-    expect_check(example, image, number, place);
-    expect_derive(example, image, 0, number, place, NULL);
-    expect_derive(example, image, MOST, number, place, NULL);
+    expect_check(example, kind, image, number, place);
+    expect_turn(example, kind, image, 0, number, place, NULL);
+    expect_turn(example, kind, image, MOST, number, place, NULL);
 }
 
-/* A good timetable gives its tables in an output of just their length or more, and 20 in a shorter one. */
-static void expect_tables(const char *example, const struct image *image, const struct image *tables)
+/* A good image is turned in an output of just the result's length or more, and refused with 20 in a shorter one. */
+static void expect_turned(const char *example, const struct kind *kind, const struct image *image, const struct image *result)
 {
-    expect_check(example, image, 0, 0);
-    expect_derive(example, image, tables->length, 0, 0, tables);
-    expect_derive(example, image, tables->length + 1, 0, 0, tables);
-    expect_derive(example, image, MOST, 0, 0, tables);
-    expect_derive(example, image, tables->length - 1, 20, 0, NULL);
-    expect_derive(example, image, 0, 20, 0, NULL);
+    expect_check(example, kind, image, 0, 0);
+    expect_turn(example, kind, image, result->length, 0, 0, result);
+    expect_turn(example, kind, image, result->length + 1, 0, 0, result);
+    expect_turn(example, kind, image, MOST, 0, 0, result);
+    expect_turn(example, kind, image, result->length - 1, 20, 0, NULL);
+    expect_turn(example, kind, image, 0, 20, 0, NULL);
 }
 
-/* ---- Timetable images ---- */
+/* A valid timetable and its tables are turned into each other, and neither is of the other's kind. */
+static void expect_pair(const char *example, const struct image *timetable, const struct image *tables)
+{
+    expect_turned(example, &timetable_kind, timetable, tables);
+    expect_turned(example, &table_kind, tables, timetable);
+    expect_refused(example, &timetable_kind, tables, 4, 0);
+    expect_refused(example, &table_kind, timetable, 4, 0);
+}
+
+/* ---- Images ---- */
+
+static const uint32_t by_hand[3][4] = {{0, 1, 5, 5}, {0, 2, 10, 10}, {0, 6, 20, 20}};
 
 struct entry {
     uint8_t task;
     uint32_t start;
+};
+struct idle {
+    uint32_t start;
+    uint16_t length;
+};
+struct inversion {
+    uint8_t task;
+    uint16_t job;
+    uint32_t delay;
 };
 
 static void put_mark(struct image *image, const char *mark)
@@ -165,18 +195,24 @@ static void put_number(struct image *image, uint32_t value, int width)
         image->bytes[image->length++] = (uint8_t)(value >> (8 * width));
 }
 
-static struct image timetable(uint32_t n, const uint32_t (*tasks)[4], uint32_t count, const struct entry *entries)
+static struct image head(uint32_t kind, uint32_t n, const uint32_t (*tasks)[4])
 {
     struct image image = {0, {0}};
     put_mark(&image, "TS");
     put_number(&image, 1, 1);
-    put_number(&image, 1, 1);
+    put_number(&image, kind, 1);
     put_number(&image, n, 1);
     for (uint32_t i = 0; i < n; i++) {
         put_mark(&image, "TK");
         for (int field = 0; field < 4; field++)
             put_number(&image, tasks[i][field], 4);
     }
+    return image;
+}
+
+static struct image timetable(uint32_t n, const uint32_t (*tasks)[4], uint32_t count, const struct entry *entries)
+{
+    struct image image = head(1, n, tasks);
     for (uint32_t i = 0; i < count; i++) {
         put_mark(&image, "SL");
         put_number(&image, entries[i].task, 1);
@@ -187,9 +223,27 @@ static struct image timetable(uint32_t n, const uint32_t (*tasks)[4], uint32_t c
     return image;
 }
 
-/* ---- The examples ---- */
+/* Tables of the set to work by hand. */
+static struct image tables(uint32_t idle_count, const struct idle *idles, uint32_t inversion_count, const struct inversion *inversions)
+{
+    struct image image = head(2, 3, by_hand);
+    for (uint32_t i = 0; i < idle_count; i++) {
+        put_mark(&image, "ID");
+        put_number(&image, idles[i].start, 4);
+        put_number(&image, idles[i].length, 2);
+    }
+    for (uint32_t i = 0; i < inversion_count; i++) {
+        put_mark(&image, "PV");
+        put_number(&image, inversions[i].task, 1);
+        put_number(&image, inversions[i].job, 2);
+        put_number(&image, inversions[i].delay, 4);
+    }
+    put_mark(&image, "EN");
+    put_number(&image, 4 + idle_count + inversion_count, 4);
+    return image;
+}
 
-static const uint32_t by_hand[3][4] = {{0, 1, 5, 5}, {0, 2, 10, 10}, {0, 6, 20, 20}};
+/* ---- The examples ---- */
 
 static const struct image p1_tables = {65, {
     0x54, 0x53, 0x01, 0x02, 0x03,
@@ -234,19 +288,33 @@ static void timetables(void)
     static const struct entry p1[7] = {{0, 0}, {1, 1}, {2, 3}, {0, 9}, {0, 10}, {1, 11}, {0, 15}};
     struct entry p2[7] = {{0, 0}, {2, 1}, {1, 7}, {0, 9}, {0, 12}, {1, 13}, {0, 15}};
     struct image image = timetable(3, by_hand, 7, p1);
-    struct image none = {0, {0}};
-    expect_tables("P1", &image, &p1_tables);
+    expect_pair("P1", &image, &p1_tables);
     image = timetable(3, by_hand, 7, p2);
-    expect_tables("P2", &image, &p2_tables);
+    expect_pair("P2", &image, &p2_tables);
     p2[3].start = 10;
     image = timetable(3, by_hand, 7, p2);
-    expect_refused("P3", &image, 15, 7);
+    expect_refused("P3", &timetable_kind, &image, 15, 7);
     p2[3].start = 8;
     image = timetable(3, by_hand, 7, p2);
-    expect_refused("P4", &image, 14, 7);
+    expect_refused("P4", &timetable_kind, &image, 14, 7);
     image = timetable(1, one, 1, first);
-    expect_tables("P9", &image, &p9_tables);
-    expect_refused("P12", &none, 1, 0);
+    expect_pair("P9", &image, &p9_tables);
+}
+
+static void table_images(void)
+{
+    static const struct idle p5[1] = {{10, 5}}, p6[2] = {{10, 1}, {11, 1}}, p8[1] = {{16, 2}};
+    static const struct inversion p2[2] = {{1, 0, 7}, {2, 0, 1}}, p7[1] = {{2, 0, 3}};
+    struct image image = tables(1, p5, 2, p2), none = {0, {0}};
+    expect_refused("P5", &table_kind, &image, 18, 4);
+    image = tables(2, p6, 2, p2);
+    expect_refused("P6", &table_kind, &image, 17, 5);
+    image = tables(0, NULL, 1, p7);
+    expect_refused("P7", &table_kind, &image, 19, 4);
+    image = tables(1, p8, 0, NULL);
+    expect_refused("P8", &table_kind, &image, 19, 4);
+    expect_refused("P12", &timetable_kind, &none, 1, 0);
+    expect_refused("P12", &table_kind, &none, 1, 0);
 }
 
 int main(void)
@@ -256,6 +324,7 @@ int main(void)
         filling = fillings[i];
         sets();
         timetables();
+        table_images();
     }
     printf("%u checks, %u failed\n", checks, failed);
     return failed > 0;

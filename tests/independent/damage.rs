@@ -313,12 +313,13 @@ fn break_range(chance: &mut Chance, set: &Set, records: &mut Vec<Record>) {
 fn break_idle(chance: &mut Chance, set: &Set, records: &mut Vec<Record>, at: usize, good: Idle) {
     let Idle { start, length } = good;
     let left = set.hyperperiod.saturating_sub(start);
-    match chance.below(6) {
+    match chance.below(7) {
         0 => records[at] = id(start, 0),
         1 => records[at] = id(start, left),
         2 => records[at] = id(chance.field(), length),
         3 => records[at] = id(start, chance.pick(&[left.max(1) - 1, left + 1, 65_535])),
         4 => records.insert(at, Record::Id(good)),
+        5 if records[at - 1].mark() == Mark::Id => records.swap(at - 1, at),
         _ => {
             let first = chance.between(1, length.saturating_sub(1));
             let second = length.saturating_sub(first).max(1);
@@ -339,12 +340,13 @@ fn break_inversion(
     let Some(Task { time, deadline, .. }) = set.tasks.get(task) else {
         return;
     };
-    match chance.below(6) {
+    match chance.below(7) {
         0 => records[at] = pv(chance.pick(&[set.tasks.len(), 16, 255]), job, delay),
         1 => records[at] = pv(task, set.jobs(task), delay),
         2 => records[at] = pv(task, chance.pick(&[65_535, 4_096]), delay),
         3 => records[at] = pv(task, job, deadline - time + 1),
         4 => records[at] = pv(task, job, chance.field()),
+        5 if records[at - 1].mark() == Mark::Pv => records.swap(at - 1, at),
         _ => records.insert(at, Record::Pv(good)),
     }
 }

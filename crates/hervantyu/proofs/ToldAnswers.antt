@@ -1,13 +1,15 @@
 -- What an answer tells, whatever it is of: the number, the place, and what each lent number holds afterwards. Assumes nothing.
-use mathlib.Core.Path.{_≡_, refl, sym, ap}
+use mathlib.Core.Path.{_≡_, refl, sym, ap, subst}
 use mathlib.Core.List.{List}
 use Prim.Native.Nat.{ℕ, zero, suc, _≤_}
 use native.Mathlib.Omega.{arith}
 use Rattle.rules.specs.declared.Refusal.{Refusal}
+use Rattle.rules.specs.declared.CheckAnswer.{CheckAnswer}
+use Rattle.rules.specs.declared.MakeAnswer.{MakeAnswer}
 use Rattle.rules.specs.Refusals.{Told, tells, tells-refusal}
 use Rattle.rules.specs.Priority.{slot}
 use Rattle.rules.proofs.Cases.{clash}
-use Rattle.hervantyu.specs.Lent.{value-if, value-or}
+use Rattle.hervantyu.specs.Lent.{value-if, value-or, CheckTold, MakeTold}
 
 -- an answer with values: number and place are 0, and a lent number holds its value
 module _ (t : Told) (values : List ℕ) (e : t ≡ tells values) where
@@ -35,3 +37,10 @@ module _ (t : Told) (r : Refusal) (e : t ≡ tells-refusal r) where
 
   pub value-kept : 1 ≤ r .number → (i old : ℕ) → old ≡ value-or t i old
   value-kept h i old = kept-by (t .number) t i old (omega (arith, its-number))
+
+-- what is told of an answer is told of one that is equal to it
+pub check-told : {a b : CheckAnswer} {number place : ℕ} → a ≡ b → CheckTold a number place → CheckTold b number place
+check-told {number = number} {place = place} e t = subst (λ (a : CheckAnswer). CheckTold a number place) e t
+
+pub make-told : {a b : MakeAnswer} {old number place length : ℕ} → a ≡ b → MakeTold a old number place length → MakeTold b old number place length
+make-told {old = old} {number = number} {place = place} {length = length} e t = subst (λ (a : MakeAnswer). MakeTold a old number place length) e t

@@ -5,10 +5,13 @@ use Prim.Native.Nat.{ℕ, zero, suc, _+_, _*_}
 use lib.ListN.{getD}
 use Rattle.rules.specs.declared.Task.{Task}
 use Rattle.rules.specs.declared.TaskSet.{TaskSet}
+use Rattle.rules.specs.declared.CheckAnswer.{CheckAnswer}
+use Rattle.rules.specs.declared.MakeAnswer.{MakeAnswer}
+use Rattle.rules.specs.declared.MakeAnswer.the-variants.{Made, Refused}
 use Rattle.rules.specs.Refusals.{Told, set-tells, check-tells, make-tells}
 use Rattle.rules.specs.Priority.{slot}
 use Rattle.rules.specs.Tasks.{limits, judge-set}
-use Rattle.rules.specs.Operations.{check-timetable, derive, derive-output}
+use Rattle.rules.specs.Operations.{check-timetable, check-tables, derive, derive-output, rebuild, rebuild-output}
 
 -- the task in the i-th four of the numbers: O, C, T, D
 abbrev pub task-from : List ℕ → ℕ → Task
@@ -39,14 +42,35 @@ pub record SetJudged (n : ℕ) (numbers : List ℕ) (old-hyperperiod old-jobs nu
   pub its-hyperperiod : hyperperiod ≡ value-or (set-tells (judge-set (set-from n numbers))) 0 old-hyperperiod
   pub its-jobs : jobs ≡ value-or (set-tells (judge-set (set-from n numbers))) 1 old-jobs
 
--- what `hv_check_timetable` returns and leaves
-pub record TimetableChecked (image : List ℕ) (number place : ℕ) : Type 0 where
-  pub its-number : number ≡ check-tells (check-timetable image) .number
-  pub its-place : place ≡ check-tells (check-timetable image) .place
+-- what plain checking returns and leaves in the place
+pub record CheckTold (answer : CheckAnswer) (number place : ℕ) : Type 0 where
+  pub its-number : number ≡ check-tells answer .number
+  pub its-place : place ≡ check-tells answer .place
 
--- what `hv_derive` returns and leaves, in the lent numbers and in every byte of the output
-pub record Derived (image old-output : List ℕ) (old-length number place length : ℕ) (output : List ℕ) : Type 0 where
-  pub its-number : number ≡ make-tells (derive image old-output) .number
-  pub its-place : place ≡ make-tells (derive image old-output) .place
-  pub its-length : length ≡ value-or (make-tells (derive image old-output)) 0 old-length
-  pub its-output : output ≡ derive-output image old-output
+abbrev pub TimetableChecked : List ℕ → ℕ → ℕ → Type 0
+TimetableChecked image = CheckTold (check-timetable image)
+
+abbrev pub TablesChecked : List ℕ → ℕ → ℕ → Type 0
+TablesChecked image = CheckTold (check-tables image)
+
+-- the length afterwards: the result's, or what it held where the answer is a refusal
+abbrev pub length-or : MakeAnswer → ℕ → ℕ
+length-or (Made length) old = length
+length-or (Refused r) old = old
+
+-- what deriving or rebuilding returns and leaves in the lent numbers
+pub record MakeTold (answer : MakeAnswer) (old-length number place length : ℕ) : Type 0 where
+  pub its-number : number ≡ make-tells answer .number
+  pub its-place : place ≡ make-tells answer .place
+  pub its-length : length ≡ length-or answer old-length
+
+-- and in every byte of the output
+pub record Written (answer : MakeAnswer) (after : List ℕ) (old-length number place length : ℕ) (output : List ℕ) : Type 0 where
+  pub told : MakeTold answer old-length number place length
+  pub its-output : output ≡ after
+
+abbrev pub Derived : List ℕ → List ℕ → ℕ → ℕ → ℕ → ℕ → List ℕ → Type 0
+Derived image old-output = Written (derive image old-output) (derive-output image old-output)
+
+abbrev pub Rebuilt : List ℕ → List ℕ → ℕ → ℕ → ℕ → ℕ → List ℕ → Type 0
+Rebuilt image old-output = Written (rebuild image old-output) (rebuild-output image old-output)

@@ -7,7 +7,7 @@ use rules::Task;
 use rules::TaskSet;
 ghost use mathlib.Core.Path.{_≡_};
 ghost use Prim.Native.Nat.{_<_};
-ghost use Rattle.hervantyu.specs.Lent.{task-from, set-from, SetJudged, TimetableChecked, Derived};
+ghost use Rattle.hervantyu.specs.Lent.{task-from, set-from, SetJudged, CheckTold, TimetableChecked, TablesChecked, MakeTold, Derived, Rebuilt};
 
 // The task in the i-th four of 64 numbers: O, C, T, D.
 fn task_from(numbers: &[u32; 64], i: usize) -> Task
@@ -64,11 +64,11 @@ pub extern "C" fn hv_judge_set(
     }
 }
 
-#[no_mangle]
-pub extern "C" fn hv_check_timetable(image: &[u8], place: &mut u64) -> u32
-    ensures { λ r. ⌜ TimetableChecked (now (image .entry)) r (now (place .exit)) ⌝ }
+// What plain checking answered, told through the place.
+fn told_check(answer: CheckAnswer, place: &mut u64) -> u32
+    ensures { λ r. ⌜ CheckTold answer r (now (place .exit)) ⌝ }
 {
-    match timetables::check(image) {
+    match answer {
         CheckAnswer::Accepted => {
             *place = 0;
             0
@@ -81,10 +81,24 @@ pub extern "C" fn hv_check_timetable(image: &[u8], place: &mut u64) -> u32
 }
 
 #[no_mangle]
-pub extern "C" fn hv_derive(image: &[u8], out: &mut [u8], place: &mut u64, length: &mut u64) -> u32
-    ensures { λ r. ⌜ Derived (now (image .entry)) (now (out .entry)) (now (length .entry)) r (now (place .exit)) (now (length .exit)) (now (out .exit)) ⌝ }
+pub extern "C" fn hv_check_timetable(image: &[u8], place: &mut u64) -> u32
+    ensures { λ r. ⌜ TimetableChecked (now (image .entry)) r (now (place .exit)) ⌝ }
 {
-    match timetables::derive(image, out) {
+    told_check(timetables::check(image), place)
+}
+
+#[no_mangle]
+pub extern "C" fn hv_check_tables(image: &[u8], place: &mut u64) -> u32
+    ensures { λ r. ⌜ TablesChecked (now (image .entry)) r (now (place .exit)) ⌝ }
+{
+    told_check(tables::check(image), place)
+}
+
+// What deriving or rebuilding answered, told through the place and the length.
+fn told_make(answer: MakeAnswer, place: &mut u64, length: &mut u64) -> u32
+    ensures { λ r. ⌜ MakeTold answer (now (length .entry)) r (now (place .exit)) (now (length .exit)) ⌝ }
+{
+    match answer {
         MakeAnswer::Made(n) => {
             *place = 0;
             *length = n as u64;
@@ -95,4 +109,18 @@ pub extern "C" fn hv_derive(image: &[u8], out: &mut [u8], place: &mut u64, lengt
             r.number
         }
     }
+}
+
+#[no_mangle]
+pub extern "C" fn hv_derive(image: &[u8], out: &mut [u8], place: &mut u64, length: &mut u64) -> u32
+    ensures { λ r. ⌜ Derived (now (image .entry)) (now (out .entry)) (now (length .entry)) r (now (place .exit)) (now (length .exit)) (now (out .exit)) ⌝ }
+{
+    told_make(deriving::derive(image, out), place, length)
+}
+
+#[no_mangle]
+pub extern "C" fn hv_rebuild(image: &[u8], out: &mut [u8], place: &mut u64, length: &mut u64) -> u32
+    ensures { λ r. ⌜ Rebuilt (now (image .entry)) (now (out .entry)) (now (length .entry)) r (now (place .exit)) (now (length .exit)) (now (out .exit)) ⌝ }
+{
+    told_make(rebuilding::rebuild(image, out), place, length)
 }
