@@ -1,6 +1,6 @@
 -- One decision on the way to a start: what the ID offset shows stops it, is used, or leaves the decision to the tasks. Assumes nothing.
 use mathlib.Core.Path.{_≡_, refl, sym, _∙_, ap}
-use mathlib.Core.Bool.{true, false}
+use mathlib.Core.Bool.{Bool, true, false}
 use mathlib.Core.List.{List}
 use mathlib.Core.Option.{none}
 use Prim.Native.Nat.{ℕ, _+_, _-_, max, _≤_, _<_}
@@ -19,7 +19,6 @@ use Rattle.rules.proofs.Cases.{by-bool, both-in, clash}
 use Rattle.rules.proofs.NextTurns.{shown-choice, lent-in-range, next-unreadable, next-idles}
 use Rattle.decision.specs.declared.IdleShown.{IdleShown}
 use Rattle.decision.specs.declared.IdleShown.the-variants.{Unreadable, NoRecord, Shows}
-use Rattle.decision.specs.declared.Recorded.{Recorded}
 use Rattle.decision.specs.declared.NextStart.{NextStart as Answer}
 use Rattle.decision.specs.declared.NextStart.the-variants.{Stuck}
 use Rattle.records.specs.Fits.{SetFits}
@@ -130,15 +129,16 @@ pub record Decides (bytes : List ℕ) (n h : ℕ) (many slack x releases : List 
 
 module _ {bytes : List ℕ} {n h : ℕ} {many slack x releases offsets : List ℕ} where
   -- the tasks' offsets, read
-  module _ {r : Recorded} (records : (ts : List Task) (k : ℕ) → Fits ts k n many slack x releases → RecordsRead ts bytes x offsets r) where
+  module _ {all-there : Bool} {instants : List ℕ}
+      (records : (ts : List Task) (k : ℕ) → Fits ts k n many slack x releases → RecordsRead ts bytes x offsets all-there instants) where
     -- a task's offset cannot be read
-    pub decides-unread : (free idle : ℕ) → r .readable ≡ false → (ts : List Task) → Fits ts h n many slack x releases →
+    pub decides-unread : (free idle : ℕ) → all-there ≡ false → (ts : List Task) → Fits ts h n many slack x releases →
         Stuck 25 ≡ next-of ts bytes x free offsets idle
     decides-unread free idle e ts fits = tasks-unread ts bytes x free offsets idle (records ts h fits .one-unread e)
 
     -- all can be read
-    pub decides-first : {free : ℕ} (idle : ℕ) → r .readable ≡ true → free ≤ h → {first : ℕ} → first ≡ least-of n h releases →
-        Decides bytes n h many slack x releases free idle offsets (r .instants) first free idle
+    pub decides-first : {free : ℕ} (idle : ℕ) → all-there ≡ true → free ≤ h → {first : ℕ} → first ≡ least-of n h releases →
+        Decides bytes n h many slack x releases free idle offsets instants first free idle
     decides-first idle e by-end is-first = record {
       by-end = by-end;
       is-first = is-first;

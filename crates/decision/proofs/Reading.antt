@@ -149,7 +149,7 @@ module _ {bytes : List ℕ} {n : ℕ} {many slack x releases offsets : List ℕ}
 
   -- all are read
   pub reads-all : {instants : List ℕ} {i : ℕ} → Reads bytes n many slack x releases offsets instants i → n ≤ i → (ts : List Task) (h : ℕ) →
-      Fits ts h n many slack x releases → RecordsRead ts bytes x offsets (record { readable = true; instants = instants })
+      Fits ts h n many slack x releases → RecordsRead ts bytes x offsets true instants
   reads-all {instants} {i} so-far past ts h fits =
       let all : i ≡ length ts = omega (arith, so-far .some, fits .set .n-tasks) in
       record { all-read = λ e. rw all at (so-far .read ts h fits); one-unread = λ e. differ e }
@@ -159,7 +159,7 @@ module _ {bytes : List ℕ} {n : ℕ} {many slack x releases offsets : List ℕ}
       {answer : InversionShown} (shown : (ts : List Task) (h : ℕ) → SetFits ts h n many slack → answer ≡ inversion-case (at-element ts bytes offsets i)) where
     -- it cannot be read
     pub reads-unread : answer ≡ Unreadable → (ts : List Task) (h : ℕ) → Fits ts h n many slack x releases →
-        RecordsRead ts bytes x offsets (record { readable = false; instants = instants })
+        RecordsRead ts bytes x offsets false instants
     reads-unread e ts h fits = record {
       all-read = λ z. differ (sym z);
       one-unread = λ z. one-unread ts bytes x offsets i (a-task fits l) (sym e ∙ shown ts h (fits .set));

@@ -18,7 +18,6 @@ use Rattle.decision.specs.declared.IdleShown.{IdleShown}
 use Rattle.decision.specs.declared.IdleShown.the-variants as idle-answer
 use Rattle.decision.specs.declared.InversionShown.{InversionShown}
 use Rattle.decision.specs.declared.InversionShown.the-variants as inversion-answer
-use Rattle.decision.specs.declared.Recorded.{Recorded}
 
 -- does a whole record with a mark stand at an offset: inside the image, and at or before the last offset
 unfoldable pub whole-at : List ℕ → ℕ → Mark → Bool
@@ -52,7 +51,7 @@ module _ (ts : List Task) (bytes x offsets : List ℕ) where
     pub named : (i : ℕ) → i < m →
         slot instants i ≡ named-instant (shown-delays (setting ts) (lent bytes ts) x offsets i) (release (task ts i) (slot x i))
 
-  -- all tasks' offsets, read
-  pub record RecordsRead (r : Recorded) : Type 0 where
-    pub all-read : r .readable ≡ true → ReadTo (r .instants) (length ts)
-    pub one-unread : r .readable ≡ false → tasks-readable (lent bytes ts) (length ts) offsets ≡ false
+  -- all tasks' offsets, read: whether each can be, and the instants
+  pub record RecordsRead (all-readable : Bool) (instants : List ℕ) : Type 0 where
+    pub all-read : all-readable ≡ true → ReadTo instants (length ts)
+    pub one-unread : all-readable ≡ false → tasks-readable (lent bytes ts) (length ts) offsets ≡ false

@@ -12,6 +12,7 @@ ghost use mathlib.Core.Path.{_≡_};
 ghost use mathlib.Core.List.{List};
 ghost use Prim.Native.Nat.{ℕ, _+_, max, _≤_, _<_};
 ghost use lib.Count.{trailingZeros};
+ghost use lib.ListN.{replicate};
 ghost use Rattle.rules.specs.declared.Task.{Task};
 ghost use Rattle.rules.specs.Marks as book-marks;
 ghost use Rattle.rules.specs.Offsets.{last-offset, lent, next-start};
@@ -114,13 +115,8 @@ fn inversion_shown(
     InversionShown::Unreadable
 }
 
-// Whether every task's offset can be read, and the instant that the record of each task's next job names, where the task's offset shows that record.
-pub struct Recorded {
-    pub readable: bool,
-    pub instants: [u32; 16],
-}
-
-// All tasks' offsets, read anew. They are the same at every decision on the way to one start: idling moves the ID offset alone.
+// All tasks' offsets, read anew: whether each can be read, and in the array the instant that the record of each task's next job names, where the task's
+// offset shows that record. They are the same at every decision on the way to one start: idling moves the ID offset alone.
 fn read_records(
     image: &[u8],
     n: usize,
@@ -129,26 +125,20 @@ fn read_records(
     next: &[u32; 16],
     release: &[u32; 16],
     offsets: &[u32; 16],
-) -> Recorded
-    requires { ⌜ ((ts : List Task) × (h : ℕ) × Fits ts h n (now jobs) (now slack) (now next) (now release)) ⌝ }
+    instants: &mut [u32; 16],
+) -> bool
+    requires { ⌜ ((ts : List Task) × (h : ℕ) × Fits ts h n (now jobs) (now slack) (now next) (now release)) × (now instants ≡ replicate 16 no-instant) ⌝ }
     ensures { λ r. ⌜ ((ts : List Task) (h : ℕ) → Fits ts h n (now (jobs .entry)) (now (slack .entry)) (now (next .entry)) (now (release .entry)) →
-        RecordsRead ts (now (image .entry)) (now (next .entry)) (now (offsets .entry)) r) ⌝ }
+        RecordsRead ts (now (image .entry)) (now (next .entry)) (now (offsets .entry)) r (now (instants .exit))) ⌝ }
 {
-    let mut instants = [LAST; 16];
     let mut i: usize = 0;
     'tasks: loop {
         if n <= i {
-            break 'tasks Recorded {
-                readable: true,
-                instants,
-            };
+            break 'tasks true;
         }
         match inversion_shown(image, n, jobs, slack, offsets[i]) {
             InversionShown::Unreadable => {
-                break 'tasks Recorded {
-                    readable: false,
-                    instants,
-                };
+                break 'tasks false;
             }
             InversionShown::NoRecord => {}
             InversionShown::Shows(r) => {
@@ -338,11 +328,10 @@ pub fn next_start(
         r ≡ next-case ts (now (image .entry)) (now (next .entry)) (now (offsets .entry))
         (next-start (setting ts) (lent (now (image .entry)) ts) (now (next .entry)) free (now (offsets .entry)) idle)) ⌝ }
 {
-    let read = read_records(image, n, jobs, slack, next, release, offsets);
-    if !read.readable {
+    let mut instants = [LAST; 16];
+    if !read_records(image, n, jobs, slack, next, release, offsets, &mut instants) {
         return NextStart::Stuck(25);
     }
-    let instants = read.instants;
     let first = least(n, h, release);
     let mut from = free;
     let mut o = idle;

@@ -46,26 +46,26 @@ module _ (bytes : List ℕ) (t : Judgement) (j : JudgedAs bytes t) where
 
   module _ (z : t .refusal .number ≡ 0) where
     -- what is known of an image that is accepted
-    abbrev g : Good bytes t
-    g = j .good z
+    abbrev known : Good bytes t
+    known = j .good z
 
     -- its set is good
     pub its-set : GoodSet (tasks-of (t .set)) (t .hyperperiod)
     its-set =
         let ts : List Task = tasks-of (t .set) in
-        let fault = first (set-fault ts) (records-fault ts (hyperperiod ts) (g .tables)) in
-        let no-fault = or-else-gives fault (then (replay (setting ts) [] (g .tables)) (compared ts (g .tables))) (g .entries) (g .judged) .0 in
-        rw (g .cycle) (good-set ts (first-none (set-fault ts) (records-fault ts (hyperperiod ts) (g .tables)) no-fault .0))
+        let fault = first (set-fault ts) (records-fault ts (hyperperiod ts) (known .tables)) in
+        let no-fault = or-else-gives fault (then (replay (setting ts) [] (known .tables)) (compared ts (known .tables))) (known .entries) (known .judged) .0 in
+        rw (known .cycle) (good-set ts (first-none (set-fault ts) (records-fault ts (hyperperiod ts) (known .tables)) no-fault .0))
 
     -- the first start is made from the fresh state
     pub first-turn : start-next bytes (fresh-state (t .set) (t .first)) 0 zeros 0 (t .first .inversions) (t .first .idle) ≡ begin bytes
     unfolding begin
     first-turn =
         let s : TaskSet = t .set in
-        let i : Tabled = record { tasks = tasks-of s; tables = g .tables } in
-        let slots : s .tasks ≡ tasks-of s ++ replicate (limits .tasks - length (tasks-of s)) zero-task = rw (g .tasks-many) (g .zero-slots) in
-        let set : s ≡ fresh i .set = λ k. record { n = sym (g .tasks-many) k; tasks = slots k } in
-        let same : fresh-state s (t .first) ≡ fresh i = λ k. fresh-state (set k) (g .offsets k) in
+        let i : Tabled = record { tasks = tasks-of s; tables = known .tables } in
+        let slots : s .tasks ≡ tasks-of s ++ replicate (limits .tasks - length (tasks-of s)) zero-task = rw (known .tasks-many) (known .zero-slots) in
+        let set : s ≡ fresh i .set = λ k. record { n = sym (known .tasks-many) k; tasks = slots k } in
+        let same : fresh-state s (t .first) ≡ fresh i = λ k. fresh-state (set k) (known .offsets k) in
         let begun : begin bytes ≡ start-next bytes (fresh i) 0 zeros 0 (fresh i .now .inversions) (fresh i .now .idle) =
-        ap (begin-framed bytes) (g .read) ∙ ap (begin-accepted bytes i) (g .judged) in
+        ap (begin-framed bytes) (known .read) ∙ ap (begin-accepted bytes i) (known .judged) in
         ap (λ (d : State). start-next bytes d 0 zeros 0 (d .now .inversions) (d .now .idle)) same ∙ sym begun

@@ -211,8 +211,8 @@ module _ (n : ℕ) (x : List ℕ) where
   none-started e = e ∙ front-zeros n (limits .tasks) x
 
   -- and are at most any number
-  pub none-above : {none : List ℕ} (bound : ℕ → ℕ) → none ≡ front n (replicate (limits .tasks) 0) x → (i : ℕ) → i < n → slot none i ≤ bound i
-  none-above bound e i l = rw (none-started e, slot-front n [] x i l, slot-empty i) (omega arith)
+  pub none-started-at-most : {none : List ℕ} (bound : ℕ → ℕ) → none ≡ front n (replicate (limits .tasks) 0) x → (i : ℕ) → i < n → slot none i ≤ bound i
+  none-started-at-most bound e i l = rw (none-started e, slot-front n [] x i l, slot-empty i) (omega arith)
 
 -- the next turn of a state, by whether all jobs of the cycle have started
 module _ (bytes : List ℕ) (d : State) {h : ℕ} {many slack releases : List ℕ} (fits : Fits (set-of d) h (d .set .n) many slack (d .next) releases)

@@ -1,5 +1,6 @@
 -- `decision::next_start` meets its contract. The invariant: the next start from here is the one asked for. The measure: what is left of the
 -- cycle. Assumes nothing.
+use mathlib.Core.Path.{refl}
 use Prim.Native.Nat.{_-_}
 use native.Mathlib.Omega.{arith}
 use borrow.Author.Needs.{needs}
@@ -16,18 +17,18 @@ abbrev μ-decisions : tie.MeasureT-decisions
 μ-decisions image n h jobs slack next release free idle offsets instants first from₀ o₀ from o = h - from
 
 read-records-requires : tie.Need-read-records-requires Inv-decisions μ-decisions
-read-records-requires c κs = (c .before .pre .0 .0, _, c .before .pre .0 .1)
+read-records-requires c κs = ((c .before .before .pre .0 .0, _, c .before .before .pre .0 .1), refl)
 
 returns : tie.Need-returns Inv-decisions μ-decisions
-returns c = decides-unread (c .before .before .read-records .ensures) _ _ (not-true _ (c .if1 .taken))
+returns c = decides-unread (c .before .read-records .ensures) _ _ (not-true _ (c .if1 .taken))
 
 least-requires : tie.Need-least-requires Inv-decisions μ-decisions
 least-requires c κs = search needs
 
 decisions-holds : tie.Need-decisions-holds Inv-decisions μ-decisions
 decisions-holds c =
-    let read = c .before .before in
-    decides-first (read .before .before .read-records .ensures) _ (not-false _ (read .if1 .left)) (read .before .before .before .before .pre .1)
+    let read = c .before in
+    decides-first (read .before .read-records .ensures) _ (not-false _ (read .if1 .left)) (read .before .before .before .before .pre .1)
     (c .least .ensures)
 
 later-requires : tie.Need-later-requires Inv-decisions μ-decisions
@@ -47,7 +48,7 @@ start-at-requires c κs =
     let told = c .before in
     let shown = told .before .before in
     let at = shown .before .before in
-    let given = at .before .before .before .before .before .before .before .pre in (
+    let given = at .before .before .before .before .before .before .pre in (
       given .0 .0,
       _,
       _,
@@ -65,7 +66,7 @@ start-at-requires-2 c κs =
     let told = test .before .before .before in
     let shown = told .before .before in
     let at = shown .before .before in
-    let given = at .before .before .before .before .before .before .before .pre in (
+    let given = at .before .before .before .before .before .before .pre in (
       given .0 .0,
       _,
       _,
@@ -80,12 +81,12 @@ add-from c =
     let told = test .before .before .before in
     let shown = told .before .before in
     let at = shown .before .before in
-    let given = at .before .before .before .before .before .before .before .pre in
+    let given = at .before .before .before .before .before .before .pre in
     omega (
       arith,
       used-fits (at .decisions .inv) (shown .before .later .ensures) (shown .idle-shown .ensures) (told .r .given .1) (test .if2 .left)
           (given .0 .0) (given .0 .1) .1,
-      at .before .before .before .before .before .before .before .fits .h,
+      at .before .before .before .before .before .before .fits .h,
     )
 
 body-of-requires : tie.Need-body-of-requires Inv-decisions μ-decisions
@@ -103,7 +104,7 @@ add-o-2 c =
     let told = test .before .before .before in
     let shown = told .before .before in
     let at = shown .before .before in
-    let given = at .before .before .before .before .before .before .before .pre in
+    let given = at .before .before .before .before .before .before .pre in
     omega (
       arith,
       used-fits (at .decisions .inv) (shown .before .later .ensures) (shown .idle-shown .ensures) (told .r .given .1) (test .if2 .left)
@@ -117,7 +118,7 @@ decisions-less c =
     let told = test .before .before .before in
     let shown = told .before .before in
     let at = shown .before .before in
-    let given = at .before .before .before .before .before .before .before .pre in
+    let given = at .before .before .before .before .before .before .pre in
     less-left (at .decisions .inv) (shown .before .later .ensures) (shown .idle-shown .ensures) (told .r .given .1) (test .if2 .left)
     (given .0 .0) (given .0 .1)
 
@@ -127,7 +128,7 @@ decisions-again c =
     let told = test .before .before .before in
     let shown = told .before .before in
     let at = shown .before .before in
-    let given = at .before .before .before .before .before .before .before .pre in
+    let given = at .before .before .before .before .before .before .pre in
     decides-again (at .decisions .inv) (shown .before .later .ensures) (shown .idle-shown .ensures) (told .r .given .1) (test .if2 .left)
     (given .0 .0) (given .0 .1) (c .body-of .ensures)
 

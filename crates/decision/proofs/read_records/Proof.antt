@@ -14,7 +14,7 @@ abbrev μ-tasks : tie.MeasureT-tasks
 μ-tasks image n jobs slack next release offsets instants₀ i₀ instants i = n - i
 
 tasks-holds : tie.Need-tasks-holds Inv-tasks μ-tasks
-tasks-holds c = reads-first
+tasks-holds c = rw (c .before .pre .1) reads-first
 
 mul-inversion-shown : tie.Need-mul-inversion-shown Inv-tasks μ-tasks
 mul-inversion-shown c = search needs
@@ -54,7 +54,7 @@ add-instants c =
     let told = c .before .before .before .before .before .before .before .before in
     let shown = told .before .before in
     let at = shown .before .before in
-    let given = at .before .before .before .pre in
+    let given = at .before .before .before .pre .0 in
     omega (
       arith,
       own-small (at .before .tasks .inv) (given .2 .set .few) (at .if1 .left) (shown .inversion-shown .ensures) (told .r .given .1)
@@ -64,8 +64,8 @@ add-instants c =
 mul-instants-2 : tie.Need-mul-instants-2 Inv-tasks μ-tasks
 mul-instants-2 c = search needs
 
-array-write-instants : tie.Need-array-write-instants Inv-tasks μ-tasks
-array-write-instants c = search needs
+element-write-instants : tie.Need-element-write-instants Inv-tasks μ-tasks
+element-write-instants c = search needs
 
 add-i : tie.Need-add-i Inv-tasks μ-tasks
 add-i c = search needs
@@ -77,7 +77,7 @@ tasks-again : tie.Need-tasks-again Inv-tasks μ-tasks
 tasks-again c =
     let shown = c .before in
     let at = shown .before .before in
-    let given = at .before .before .before .pre in
+    let given = at .before .before .before .pre .0 in
     ⊎-elim
     (λ w. rw (w .2) (reads-none (at .before .tasks .inv) (given .2 .set .few) (at .if1 .left) (shown .inversion-shown .ensures) (w .1 .given .1)))
     (λ v. ⊎-elim
@@ -97,7 +97,7 @@ returns-2 : tie.Need-returns-2 Inv-tasks μ-tasks
 returns-2 c =
     let shown = c .before .before in
     let at = shown .before .before in
-    let given = at .before .before .before .pre in
+    let given = at .before .before .before .pre .0 in
     reads-unread (at .before .tasks .inv) (given .2 .set .few) (at .if1 .left) (shown .inversion-shown .ensures) (c .enum-told .given .1)
 
 pub read-records-spec : {M : Type 1} → statement M
@@ -120,7 +120,7 @@ read-records-spec =
     element-copy-out-instants
     add-instants
     mul-instants-2
-    array-write-instants
+    element-write-instants
     add-i
     tasks-less
     tasks-again

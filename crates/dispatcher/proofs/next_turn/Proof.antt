@@ -10,7 +10,7 @@ use Rattle.rules.specs.Dispatcher.{set-of, possible, refused}
 use Rattle.sets.proofs.Slots.{slots-counted}
 use Rattle.records.proofs.SetKept.{fits}
 use Rattle.decision.specs.Fits.{Fits}
-use Rattle.dispatcher.proofs.Going.{free-by-end, next-possible, releases-fit, next-fits, none-above, in-this-cycle, in-next-cycle, after-last-cycle}
+use Rattle.dispatcher.proofs.Going.{free-by-end, next-possible, releases-fit, next-fits, none-started-at-most, in-this-cycle, in-next-cycle, after-last-cycle}
 use borrow.Author.Needs.{needs}
 use Rattle.dispatcher.proofs.next_turn.Statement.{statement}
 use Rattle.dispatcher.proofs.next_turn.Tie as tie
@@ -47,7 +47,7 @@ entry c = c .before .before .before .before .before .before .before .before .bef
 none-here : (c : tie.After-none) (i : ℕ) → i < entry c .args .d .set .n → slot (c .before .front .result) i ≤ at-most (entry c) i
 none-here c =
     let start = c .before .before .before .before .before .before .before .before .before .before .before .before .before .before .before .before in
-    none-above (start .args .d .set .n) (start .args .d .next) (at-most start) (c .before .front .ensures)
+    none-started-at-most (start .args .d .set .n) (start .args .d .next) (at-most start) (c .before .front .ensures)
 
 cast-n : tie.Need-cast-n
 cast-n c = search needs
