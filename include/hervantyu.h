@@ -1,7 +1,8 @@
-/* Hervantyu: schedule images judged, derived and rebuilt, for the far end of the cable.
+/* Hervantyu: schedule images judged, derived, rebuilt and dispatched from, for the far end of the cable.
  *
- * Every function returns the number of the refusal, 0 where nothing is refused, and stores the refusal's place in *place (0 where nothing is refused).
- * On a refusal every other number and every byte that was lent stays as it was.
+ * Every function returns the number of the refusal, 0 where nothing is refused, and stores the refusal's place in *place (0 where nothing is refused; going
+ * on stores no place, it would be 0). On a refusal every other number and every byte that was lent stays as it was, but for a dispatcher's record, which is
+ * then what hv_begin and hv_go_on say below.
  *
  * No pointer may be null, also where a length is 0. No two regions that are lent to one call may overlap: an image cannot be turned into its other kind in
  * place. No function keeps anything between calls; calls may run at the same time on different memory.
@@ -17,6 +18,7 @@
  *   17, 18, 19          the records of tables: in turn, one breaks its own rule or comes out of its turn (17); then their replay, a job would start too
  *                       late for its deadline (18); then a record changes nothing, the replayed timetable's own tables are without it (19)
  *   20                  the result is longer than the lent output
+ *   21 to 25            going on from a dispatcher's state, see hv_go_on
  * A place is the index of the record at fault, from 0; for 8, 9 and 20 it is 0, for 16 the lowest task number with a job missing, for 18 the index of the
  * late job among the starts.
  */
@@ -28,19 +30,17 @@
 
 #ifdef __cplusplus
 #define HV_RESTRICT
+#define HV_LENT(count)
 extern "C" {
 #else
 #define HV_RESTRICT restrict
+#define HV_LENT(count) restrict static count
 #endif
 
 /* Judges a set in memory: n tasks, each O, C, T, D, one after the other. All 64 numbers are lent whatever n is; those behind the first 4 * n change nothing.
  * Gives 5 to 9, with the places that the set's records would have in an image. Where the set is good, *hyperperiod and *jobs are what its cycle comes to. */
-#ifdef __cplusplus
-uint32_t hv_judge_set(uint32_t n, const uint32_t *tasks, uint64_t *place, uint32_t *hyperperiod, uint32_t *jobs);
-#else
-uint32_t hv_judge_set(uint32_t n, const uint32_t tasks[restrict static 64], uint64_t *restrict place, uint32_t *restrict hyperperiod,
-                      uint32_t *restrict jobs);
-#endif
+uint32_t hv_judge_set(uint32_t n, const uint32_t tasks[HV_LENT(64)], uint64_t *HV_RESTRICT place, uint32_t *HV_RESTRICT hyperperiod,
+                      uint32_t *HV_RESTRICT jobs);
 
 /* Checks a timetable image: accepted exactly when it is the image of a good set and a valid timetable. Gives 1 to 16. */
 uint32_t hv_check_timetable(const uint8_t *HV_RESTRICT image, size_t len, uint64_t *HV_RESTRICT place);
@@ -57,6 +57,51 @@ uint32_t hv_check_tables(const uint8_t *HV_RESTRICT image, size_t len, uint64_t 
  * Where nothing is refused the timetable image fills the front of out, *length is its length, and the bytes of out behind it keep their values. */
 uint32_t hv_rebuild(const uint8_t *HV_RESTRICT image, size_t len, uint8_t *HV_RESTRICT out, size_t room, uint64_t *HV_RESTRICT place,
                     uint64_t *HV_RESTRICT length);
+
+/* The state of a dispatcher: one record, kept by the drive's main loop and changed in place by every call. The stopped state has every number 0. Slots from n
+ * up begin at 0, change no start and pass on as they are. The numbers have the processor's own byte order: the record is not for storage, nor for another
+ * processor. Later editions add numbers at the end. */
+#define HV_DISPATCHER_NUMBERS 119
+
+struct hv_dispatcher {
+    uint32_t n;
+    uint32_t tasks[16][4];                                /* O, C, T, D */
+    uint32_t next_jobs[16];                               /* of each task the number of its next job, H/T where none is left in the cycle */
+    uint32_t cycle;
+    uint32_t running_task, running_job, running_start;    /* the running job, with its start in the cycle */
+    uint32_t id_offset, pv_offsets[16];                   /* byte offsets in the image: of the ID to be used next, of each task's next PV */
+    uint32_t id_offset_at_start, pv_offsets_at_start[16]; /* the same as at a cycle's start */
+};
+
+#ifdef __cplusplus
+static_assert(sizeof(struct hv_dispatcher) == HV_DISPATCHER_NUMBERS * sizeof(uint32_t), "a dispatcher's record is its numbers and nothing else");
+#else
+_Static_assert(sizeof(struct hv_dispatcher) == HV_DISPATCHER_NUMBERS * sizeof(uint32_t), "a dispatcher's record is its numbers and nothing else");
+#endif
+
+/* Begins: checks a table image as hv_check_tables does, and answers its first start: task, job, cycle (0), absolute time. Gives 1 to 10, 17, 18, 19 with the
+ * places that checking has. What *d held before changes nothing, it need not be set. On a refusal *d is stopped: to try a new image while another one runs,
+ * begin with a second record. */
+uint32_t hv_begin(struct hv_dispatcher *HV_RESTRICT d, const uint8_t *HV_RESTRICT image, size_t len, uint64_t start[HV_LENT(4)],
+                  uint64_t *HV_RESTRICT place);
+
+/* Goes on: the running job has ended at the absolute time end; answers the next start: task, job, cycle, absolute time, which is cycle * H + the time in the
+ * cycle. The job is to start at that time, not when the call returns: the processor is taken for the whole declared time, whatever end is reported within it.
+ * The numbers in their order, and the state after each:
+ *   23  *d is stopped; unchanged
+ *   25  *d is impossible: its set breaks 5 to 9, a next job number is above H/T, or the running job is not the last one started of a task below n, starts
+ *       before its release or ends late; stopped
+ *   21  end is before the running job's start; unchanged, so that the call can be made again
+ *   22  end is after the running job's start + C; stopped
+ *   24  all jobs of cycle 4,294,967,295 have started; unchanged
+ *   25  the bytes are impossible: no whole ID, PV or EN at the ID offset, no whole PV or EN at a task's, one of these records outside its own range, or a
+ *       job that would start too late for its deadline; stopped (a record is whole where it ends inside the image and at byte 4,294,967,295 at the latest)
+ *
+ * Guarantee, from hv_begin on, that every call is lent the accepted image with not a byte changed, and *d as the call before left it (it may lie elsewhere),
+ * and that no call on a record is interrupted by another call on it. Then the starts are, in every cycle, those of the timetable that hv_rebuild gives, in
+ * its order and each at its time, and 25 never comes. With ends from each start to its start + C nothing is refused before cycle 4,294,967,295 is over.
+ * Whatever else is lent, any bytes and any numbers in *d, the call answers as above. */
+uint32_t hv_go_on(struct hv_dispatcher *HV_RESTRICT d, const uint8_t *HV_RESTRICT image, size_t len, uint64_t end, uint64_t start[HV_LENT(4)]);
 
 #ifdef __cplusplus
 }

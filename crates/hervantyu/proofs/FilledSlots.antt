@@ -1,4 +1,4 @@
--- The slots of a set that lent numbers fill: one task after the other takes the next slot. Assumes nothing.
+-- Slots that are filled one after the other, each with its value: a set's tasks, or sixteen numbers. Assumes nothing.
 use mathlib.Core.Path.{_≡_, refl, sym, _∙_, ap}
 use mathlib.Core.List.{List, [], _∷_, _++_}
 use Prim.Native.Nat.{ℕ, zero, suc, _+_, _-_, _<_}
@@ -6,40 +6,47 @@ use native.Mathlib.Numerals.{add-one}
 use native.Mathlib.Omega.{arith}
 use lib.ListN.{length, set, replicate}
 use lib.Seq.{set-at, append-snoc}
-use Rattle.rules.specs.declared.Task.{Task}
-use Rattle.rules.specs.Dispatcher.{zero-task}
-use Rattle.hervantyu.specs.Lent.{task-from, tasks-from, set-from}
+use Rattle.rules.specs.Tasks.{limits}
+use Rattle.hervantyu.specs.Lent.{slots-from, slots}
 
-module _ (numbers : List ℕ) where
-  tasks-length : (i many : ℕ) → length (tasks-from numbers i many) ≡ many
-  unfolding tasks-from
-  tasks-length i zero = refl
-  tasks-length i (suc many) = ap suc (tasks-length (suc i) many)
+module _ {A : Type 0} (value : ℕ → A) where
+  -- so many slots are as many as asked for
+  as-many : (i many : ℕ) → length (slots-from value i many) ≡ many
+  unfolding slots-from
+  as-many i zero = refl
+  as-many i (suc many) = ap suc (as-many (suc i) many)
 
-  -- one task more, the k-th of the numbers, is taken behind the others
-  tasks-more : (i many k : ℕ) → k ≡ i + many → tasks-from numbers i (suc many) ≡ tasks-from numbers i many ++ (task-from numbers k ∷ [])
-  unfolding tasks-from
-  tasks-more i zero k e = let here : k ≡ i = omega arith in rw here
-  tasks-more i (suc many) k e = ap (λ (ts : List Task). task-from numbers i ∷ ts) (tasks-more (suc i) many k (omega arith))
+  -- sixteen slots are sixteen
+  pub sixteen : length (slots value) ≡ limits .tasks
+  sixteen = as-many 0 (limits .tasks)
 
-  -- the slots when so many tasks have been taken
-  abbrev pub filled : ℕ → List Task
-  filled i = tasks-from numbers 0 i ++ replicate (16 - i) zero-task
+  -- one slot more, the k-th, stands behind the others
+  slots-more : (i many k : ℕ) → k ≡ i + many → slots-from value i (suc many) ≡ slots-from value i many ++ (value k ∷ [])
+  unfolding slots-from
+  slots-more i zero k e = let here : k ≡ i = omega arith in rw here
+  slots-more i (suc many) k e = ap (λ (x : List A). value i ∷ x) (slots-more (suc i) many k (omega arith))
 
-  pub none-filled : replicate 16 zero-task ≡ filled 0
-  unfolding tasks-from
-  none-filled = refl
+  module _ (empty : A) where
+    -- the slots when so many have been filled
+    abbrev pub filled : ℕ → List A
+    filled i = slots-from value 0 i ++ replicate (16 - i) empty
 
-  pub one-more : (i : ℕ) → i < 16 → set (filled i) i (task-from numbers i) ≡ filled (i + 1)
-  one-more i h =
-      let left : 16 - i ≡ suc (16 - suc i) = omega arith in
-      let others = replicate (16 - suc i) zero-task in
-      rw (left, add-one i)
-      (set-at (tasks-from numbers 0 i) zero-task others (task-from numbers i) i (tasks-length 0 i)
-      ∙ sym (append-snoc (tasks-from numbers 0 i) (task-from numbers i) others)
-      ∙ ap (λ (ts : List Task). ts ++ others) (sym (tasks-more 0 i i (omega arith))))
+    -- at first none is
+    pub none-filled : replicate 16 empty ≡ filled 0
+    unfolding slots-from
+    none-filled = refl
 
-  -- with every slot filled they are the set
-  pub all-filled : (n i : ℕ) (ts : List Task) → i ≡ 16 → ts ≡ filled i → record { n = n; tasks = ts } ≡ set-from n numbers
-  unfolding tasks-from
-  all-filled n i ts e f = rw (f, e)
+    -- one slot more takes its value
+    pub one-more : (i : ℕ) → i < 16 → set (filled i) i (value i) ≡ filled (i + 1)
+    one-more i h =
+        let left : 16 - i ≡ suc (16 - suc i) = omega arith in
+        let others = replicate (16 - suc i) empty in
+        rw (left, add-one i)
+        (set-at (slots-from value 0 i) empty others (value i) i (as-many 0 i)
+        ∙ sym (append-snoc (slots-from value 0 i) (value i) others)
+        ∙ ap (λ (x : List A). x ++ others) (sym (slots-more 0 i i (omega arith))))
+
+    -- with every slot filled they are all slots
+    pub all-filled : (i : ℕ) (x : List A) → i ≡ 16 → x ≡ filled i → x ≡ slots value
+    unfolding slots-from
+    all-filled i x e f = rw (f, e)

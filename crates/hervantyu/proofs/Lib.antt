@@ -1,3 +1,5 @@
 pub mod FilledSlots
+pub mod StoredNumbers
+pub mod StateNumbers
 pub mod ToldAnswers
 pub mod Promises

@@ -1,15 +1,19 @@
 -- What an answer tells, whatever it is of: the number, the place, and what each lent number holds afterwards. Assumes nothing.
 use mathlib.Core.Path.{_≡_, refl, sym, ap, subst}
-use mathlib.Core.List.{List}
+use mathlib.Core.List.{List, [], _∷_}
 use Prim.Native.Nat.{ℕ, zero, suc, _≤_}
 use native.Mathlib.Omega.{arith}
 use Rattle.rules.specs.declared.Refusal.{Refusal}
+use Rattle.rules.specs.declared.StartAnswer.{StartAnswer}
+use Rattle.rules.specs.declared.StartAnswer.the-variants as start-case
 use Rattle.rules.specs.declared.CheckAnswer.{CheckAnswer}
 use Rattle.rules.specs.declared.MakeAnswer.{MakeAnswer}
-use Rattle.rules.specs.Refusals.{Told, tells, tells-refusal}
+use Rattle.rules.specs.declared.Turn.{Turn}
+use Rattle.rules.specs.Dispatcher.{numbers}
+use Rattle.rules.specs.Refusals.{Told, tells, tells-refusal, start-tells}
 use Rattle.rules.specs.Priority.{slot}
 use Rattle.rules.proofs.Cases.{clash}
-use Rattle.hervantyu.specs.Lent.{value-if, value-or, CheckTold, MakeTold}
+use Rattle.hervantyu.specs.Lent.{value-if, value-or, CheckTold, MakeTold, state-from, start-or, StartTold, TurnTold}
 
 -- an answer with values: number and place are 0, and a lent number holds its value
 module _ (t : Told) (values : List ℕ) (e : t ≡ tells values) where
@@ -44,3 +48,14 @@ check-told {number = number} {place = place} e t = subst (λ (a : CheckAnswer). 
 
 pub make-told : {a b : MakeAnswer} {old number place length : ℕ} → a ≡ b → MakeTold a old number place length → MakeTold b old number place length
 make-told {old = old} {number = number} {place = place} {length = length} e t = subst (λ (a : MakeAnswer). MakeTold a old number place length) e t
+
+-- what is told of a turn's answer and state is told of a turn that is equal
+pub turn-told : {a b : Turn} {old start state : List ℕ} {number : ℕ} → a ≡ b → StartTold (a .answer) old number start →
+    (state ≡ numbers (a .state)) × (state-from state ≡ a .state) → TurnTold b old number start state
+turn-told {old = old} {start = start} {state = state} {number = number} e told is =
+    subst (λ (t : Turn). TurnTold t old number start state) e (record { told = told; its-numbers = is .0; its-state = is .1 })
+
+-- values that an answer tells are those in the start
+pub start-given : (a : StartAnswer) (value : ℕ) (values old : List ℕ) → start-tells a ≡ tells (value ∷ values) → start-or a old ≡ value ∷ values
+start-given (start-case.Start s) value values old e = ap (λ (t : Told). t .values) e
+start-given (start-case.Refused r) value values old e = let none : [] ≡ value ∷ values = ap (λ (t : Told). t .values) e in clash (cc)

@@ -5,27 +5,60 @@ use Prim.Native.Nat.{ℕ, zero, suc, _+_, _*_}
 use lib.ListN.{getD}
 use Rattle.rules.specs.declared.Task.{Task}
 use Rattle.rules.specs.declared.TaskSet.{TaskSet}
+use Rattle.rules.specs.declared.Offsets.{Offsets}
+use Rattle.rules.specs.declared.Dispatcher.{Dispatcher as State}
+use Rattle.rules.specs.declared.Turn.{Turn}
+use Rattle.rules.specs.declared.StartAnswer.{StartAnswer}
+use Rattle.rules.specs.declared.StartAnswer.the-variants as start-case
 use Rattle.rules.specs.declared.CheckAnswer.{CheckAnswer}
 use Rattle.rules.specs.declared.MakeAnswer.{MakeAnswer}
 use Rattle.rules.specs.declared.MakeAnswer.the-variants.{Made, Refused}
-use Rattle.rules.specs.Refusals.{Told, set-tells, check-tells, make-tells}
+use Rattle.rules.specs.Refusals.{Told, set-tells, check-tells, make-tells, start-tells}
 use Rattle.rules.specs.Priority.{slot}
 use Rattle.rules.specs.Tasks.{limits, judge-set}
 use Rattle.rules.specs.Operations.{check-timetable, check-tables, derive, derive-output, rebuild, rebuild-output}
+use Rattle.rules.specs.Dispatcher.{numbers, begin, go-on}
 
--- the task in the i-th four of the numbers: O, C, T, D
+-- so many slots from the i-th on, each with its value
+unfoldable pub slots-from : {A : Type 0} → (ℕ → A) → ℕ → ℕ → List A
+slots-from value i zero = []
+slots-from value i (suc many) = value i ∷ slots-from value (suc i) many
+
+-- sixteen slots, each with its value
+abbrev pub slots : {A : Type 0} → (ℕ → A) → List A
+slots value = slots-from value 0 (limits .tasks)
+
+-- the number at a place
+abbrev pub number-at : List ℕ → ℕ → ℕ
+number-at lent at = getD lent at 0
+
+-- the task in the four numbers from a place on: O, C, T, D
 abbrev pub task-from : List ℕ → ℕ → Task
-task-from numbers i =
-    record { offset = getD numbers (4 * i) 0; time = getD numbers (4 * i + 1) 0; period = getD numbers (4 * i + 2) 0; deadline = getD numbers (4 * i + 3) 0 }
+task-from lent at =
+    record { offset = number-at lent at; time = number-at lent (at + 1); period = number-at lent (at + 2); deadline = number-at lent (at + 3) }
 
--- so many tasks from the i-th on
-unfoldable pub tasks-from : List ℕ → ℕ → ℕ → List Task
-tasks-from numbers i zero = []
-tasks-from numbers i (suc many) = task-from numbers i ∷ tasks-from numbers (suc i) many
+-- a set of n tasks in the first of its slots, which the numbers from a place on fill
+abbrev pub set-from : ℕ → List ℕ → ℕ → TaskSet
+set-from n lent at = record { n = n; tasks = slots (λ (i : ℕ). task-from lent (at + 4 * i)) }
 
--- a set of n tasks in the first of its slots, which the numbers fill
-abbrev pub set-from : ℕ → List ℕ → TaskSet
-set-from n numbers = record { n = n; tasks = tasks-from numbers 0 (limits .tasks) }
+-- the sixteen numbers from a place on
+abbrev pub numbers-from : List ℕ → ℕ → List ℕ
+numbers-from lent at = slots (λ (i : ℕ). number-at lent (at + i))
+
+-- the offsets that the numbers from a place on are: the idle's, then the inversions'
+abbrev pub offsets-from : List ℕ → ℕ → Offsets
+offsets-from lent at = record { idle = number-at lent at; inversions = numbers-from lent (at + 1) }
+
+-- the dispatcher's state that 119 numbers are
+abbrev pub state-from : List ℕ → State
+state-from lent = record {
+  set = set-from (number-at lent 0) lent 1;
+  next = numbers-from lent 65;
+  cycle = number-at lent 81;
+  running = record { task = number-at lent 82; job = number-at lent 83; start = number-at lent 84 };
+  now = offsets-from lent 85;
+  first = offsets-from lent 102;
+}
 
 -- a lent number afterwards: the answer's value, or what it held where the answer is a refusal
 abbrev pub value-if : ℕ → Told → ℕ → ℕ → ℕ
@@ -37,10 +70,10 @@ value-or t i old = value-if (t .number) t i old
 
 -- what `hv_judge_set` returns and leaves in the lent numbers, for n tasks in 64 numbers
 pub record SetJudged (n : ℕ) (numbers : List ℕ) (old-hyperperiod old-jobs number place hyperperiod jobs : ℕ) : Type 0 where
-  pub its-number : number ≡ set-tells (judge-set (set-from n numbers)) .number
-  pub its-place : place ≡ set-tells (judge-set (set-from n numbers)) .place
-  pub its-hyperperiod : hyperperiod ≡ value-or (set-tells (judge-set (set-from n numbers))) 0 old-hyperperiod
-  pub its-jobs : jobs ≡ value-or (set-tells (judge-set (set-from n numbers))) 1 old-jobs
+  pub its-number : number ≡ set-tells (judge-set (set-from n numbers 0)) .number
+  pub its-place : place ≡ set-tells (judge-set (set-from n numbers 0)) .place
+  pub its-hyperperiod : hyperperiod ≡ value-or (set-tells (judge-set (set-from n numbers 0))) 0 old-hyperperiod
+  pub its-jobs : jobs ≡ value-or (set-tells (judge-set (set-from n numbers 0))) 1 old-jobs
 
 -- what plain checking returns and leaves in the place
 pub record CheckTold (answer : CheckAnswer) (number place : ℕ) : Type 0 where
@@ -74,3 +107,28 @@ Derived image old-output = Written (derive image old-output) (derive-output imag
 
 abbrev pub Rebuilt : List ℕ → List ℕ → ℕ → ℕ → ℕ → ℕ → List ℕ → Type 0
 Rebuilt image old-output = Written (rebuild image old-output) (rebuild-output image old-output)
+
+-- the start afterwards: task, job, cycle and absolute time, or what it held where the answer is a refusal
+abbrev pub start-or : StartAnswer → List ℕ → List ℕ
+start-or (start-case.Start s) old = s .task ∷ s .job ∷ s .cycle ∷ s .time ∷ []
+start-or (start-case.Refused r) old = old
+
+-- what the dispatcher returns and leaves in the start
+pub record StartTold (answer : StartAnswer) (old-start : List ℕ) (number : ℕ) (start : List ℕ) : Type 0 where
+  pub its-number : number ≡ start-tells answer .number
+  pub its-start : start ≡ start-or answer old-start
+
+-- and in the state's numbers: they are those of the state that is handed back, and it is the state that they are
+pub record TurnTold (turn : Turn) (old-start : List ℕ) (number : ℕ) (start state : List ℕ) : Type 0 where
+  pub told : StartTold (turn .answer) old-start number start
+  pub its-numbers : state ≡ numbers (turn .state)
+  pub its-state : state-from state ≡ turn .state
+
+-- what `hv_begin` returns and leaves, whatever the state was
+pub record Begun (image old-start : List ℕ) (number place : ℕ) (start state : List ℕ) : Type 0 where
+  pub turn-told : TurnTold (begin image) old-start number start state
+  pub its-place : place ≡ start-tells (begin image .answer) .place
+
+-- what `hv_go_on` returns and leaves
+abbrev pub GoneOn : List ℕ → List ℕ → ℕ → List ℕ → ℕ → List ℕ → List ℕ → Type 0
+GoneOn image old-state end = TurnTold (go-on image (state-from old-state) end)

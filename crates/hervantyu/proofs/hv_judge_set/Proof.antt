@@ -11,7 +11,7 @@ use Rattle.hervantyu.proofs.hv_judge_set.Statement.{statement}
 use Rattle.hervantyu.proofs.hv_judge_set.Tie as tie
 
 -- the answer is the rule book's for the lent numbers
-answered : (c : tie.After-judge-set) → judge-set (set-from (c .before .before .args .n) (c .before .before .args .tasks .now)) ≡ c .judge-set .result
+answered : (c : tie.After-judge-set) → judge-set (set-from (c .before .before .before .args .n) (c .before .before .before .args .tasks .now) 0) ≡ c .judge-set .result
 answered c = sym (c .judge-set .ensures ∙ ap judge-set (c .before .set-from .ensures))
 
 set-from-requires : tie.Need-set-from-requires
