@@ -29,6 +29,20 @@ extern "C" {
         place: *mut u64,
         length: *mut u64,
     ) -> u32;
+    pub fn hv_begin(
+        state: *mut u32,
+        image: *const u8,
+        len: usize,
+        start: *mut u64,
+        place: *mut u64,
+    ) -> u32;
+    pub fn hv_go_on(
+        state: *mut u32,
+        image: *const u8,
+        len: usize,
+        end: u64,
+        start: *mut u64,
+    ) -> u32;
 }
 
 /// A function that checks an image.
@@ -40,11 +54,23 @@ pub type Turn = unsafe extern "C" fn(*const u8, usize, *mut u8, usize, *mut u64,
 /// The tasks that a set in memory has room for.
 pub const SLOTS: usize = 16;
 
+/// The numbers of a dispatcher's state.
+pub const NUMBERS: usize = 119;
+
 #[derive(Clone, Copy, PartialEq, Eq, Debug)]
 pub struct Refusal {
     pub number: u32,
     pub place: u64,
 }
+
+/// A dispatcher's state.
+pub type State = [u32; NUMBERS];
+
+/// A start: task, job, cycle and absolute time.
+pub type Start = [u64; 4];
+
+/// A dispatcher's answer with the state after it.
+pub type Step = (State, Result<Start, Refusal>);
 
 // ---- The calls ----
 
@@ -87,6 +113,59 @@ pub fn derive(case: &dyn Display, room: usize, image: &[u8]) -> Result<Vec<u8>, 
 /// The timetable image of a table image, rebuilt into an output of `room` bytes.
 pub fn rebuild(case: &dyn Display, room: usize, image: &[u8]) -> Result<Vec<u8>, Refusal> {
     turn(case, hv_rebuild, room, image)
+}
+
+/// Begins with an image in a record that holds filling.
+pub fn begin(case: &dyn Display, image: &[u8]) -> Step {
+    twice(case, |filling| {
+        let mut state = Lent::<u32>::filled(NUMBERS, filling);
+        let mut lent = Lent::new(image, filling);
+        let mut start = Lent::<u64>::filled(4, filling);
+        let mut place = Lent::<u64>::filled(1, filling);
+        // SAFETY: every pointer is to as much as the header asks for, and none overlap.
+        let number = unsafe {
+            let (s, p) = (start.pointer(), place.pointer());
+            hv_begin(state.pointer(), lent.pointer(), image.len(), s, p)
+        };
+        lent.demand_kept(0, case, "the image");
+        let told = answer(number, &place, case);
+        step(case, &state, &start, told)
+    })
+}
+
+/// Goes on from a state, with the reported end; a refusal has place 0.
+pub fn go_on(case: &dyn Display, image: &[u8], before: &State, end: u64) -> Step {
+    twice(case, |filling| {
+        let mut state = Lent::new(before, filling);
+        let mut lent = Lent::new(image, filling);
+        let mut start = Lent::<u64>::filled(4, filling);
+        // SAFETY: every pointer is to as much as the header asks for, and none overlap.
+        let number = unsafe {
+            let (d, s) = (state.pointer(), start.pointer());
+            hv_go_on(d, lent.pointer(), image.len(), end, s)
+        };
+        lent.demand_kept(0, case, "the image");
+        let told = match number {
+            0 => Ok(()),
+            number => Err(Refusal { number, place: 0 }),
+        };
+        step(case, &state, &start, told)
+    })
+}
+
+/// The dispatcher's answer; on a refusal the start keeps its bytes.
+fn step(
+    case: &dyn Display,
+    state: &Lent<u32>,
+    start: &Lent<u64>,
+    told: Result<(), Refusal>,
+) -> Step {
+    state.demand_kept(NUMBERS, case, "the state");
+    let written = if told.is_ok() { 4 } else { 0 };
+    start.demand_kept(written, case, "the start");
+    let numbers = state.content().try_into().expect("as many as were lent");
+    let start = start.content().try_into().expect("as many as were lent");
+    (numbers, told.map(|()| start))
 }
 
 fn check(case: &dyn Display, function: Check, image: &[u8]) -> Result<(), Refusal> {

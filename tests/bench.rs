@@ -1,6 +1,7 @@
 //! Measures the archive and an implementation written for speed side by side, on valid timetables
-//! with forced idles and inversions that are made from a fixed seed, and on their tables; beside
-//! them, for accepting tables, one that need not keep the archive's limits.
+//! with forced idles and inversions that are made from a fixed seed, on their tables, and on
+//! dispatching from these; beside them, for accepting tables, one that need not keep the archive's
+//! limits.
 
 #[allow(dead_code)]
 mod archive;
@@ -9,8 +10,9 @@ mod archive;
 mod chance;
 mod fast;
 
-use archive::{Check, Turn};
+use archive::{Check, Turn, NUMBERS};
 use chance::Chance;
+use fast::dispatcher::{self, Start, State};
 use fast::{unlimited, Refusal};
 use std::hint::black_box;
 use std::time::{Duration, Instant};
@@ -20,6 +22,7 @@ const ROUNDS: usize = 101;
 const SHORTEST_ROUND: Duration = Duration::from_micros(200);
 const ROOM: usize = 131_072;
 const DAMAGES: usize = 300;
+const CYCLES: usize = 3;
 
 /// The periods of the sets, each with how many tasks have it.
 const SETS: [&[(u32, usize)]; 6] = [
@@ -53,6 +56,9 @@ fn main() {
         let [accept, rebuild] = TABLES.times(&tables);
         print_row("accept", shape, &tables, &accept);
         print_row("rebuild", shape, &tables, &rebuild);
+        let run = Run::new(&tasks, &tables, CYCLES * entries.len());
+        run.same_refusals(&mut Chance::new(SEED));
+        print_row("go", shape, &tables, &run.times());
     }
 }
 
@@ -270,6 +276,100 @@ fn irregularities(tables: &[u8], n: usize) -> (usize, usize) {
     let inversions = (body.len() - 8 * idles) / 9;
     assert!(idles > 0 && inversions > 0, "the timetable is too regular");
     (idles, inversions)
+}
+
+// ---- Dispatching ----
+
+/// Going on: the state is changed in place, and the number of a refusal is given back.
+type GoOn = fn(&mut State, &[u8], u64) -> Result<Start, u32>;
+
+fn archive_begin(state: &mut State, image: &[u8]) -> Result<Start, Refusal> {
+    let (mut start, mut place) = ([0; 4], 0);
+    let (d, s) = (state.as_mut_ptr(), start.as_mut_ptr());
+    // SAFETY: every pointer is to as much as the header asks for, and none overlap.
+    match unsafe { archive::hv_begin(d, image.as_ptr(), image.len(), s, &mut place) } {
+        0 => Ok(start),
+        number => Err(Refusal { number, place }),
+    }
+}
+
+fn archive_go_on(state: &mut State, image: &[u8], end: u64) -> Result<Start, u32> {
+    let mut start = [0; 4];
+    let (d, s) = (state.as_mut_ptr(), start.as_mut_ptr());
+    // SAFETY: every pointer is to as much as the header asks for, and none overlap.
+    match unsafe { archive::hv_go_on(d, image.as_ptr(), image.len(), end, s) } {
+        0 => Ok(start),
+        number => Err(number),
+    }
+}
+
+/// An honest run: the states in which its calls are made, and the ends that are reported.
+struct Run<'a> {
+    image: &'a [u8],
+    states: Vec<State>,
+    ends: Vec<u64>,
+}
+
+impl Run<'_> {
+    /// A run of so many calls, on all of which both sides agree.
+    fn new<'a>(tasks: &[[u32; 4]], image: &'a [u8], calls: usize) -> Run<'a> {
+        let (mut state, mut other) = ([1; NUMBERS], [2; NUMBERS]);
+        let mut start = archive_begin(&mut state, image).expect("the image is good");
+        assert_eq!(dispatcher::begin(&mut other, image), Ok(start));
+        let mut run = Run {
+            image,
+            states: Vec::new(),
+            ends: Vec::new(),
+        };
+        for _ in 0..calls {
+            let end = start[3] + u64::from(tasks[start[0] as usize][1]);
+            run.states.push(state);
+            run.ends.push(end);
+            let went = dispatcher::go_on(&mut other, image, end);
+            start = archive_go_on(&mut state, image, end).expect("the run is honest");
+            assert_eq!(went, Ok(start));
+            assert!(state == other, "the states differ");
+        }
+        run
+    }
+
+    /// Both sides answer the same, and leave the same state, where the image, a number of the
+    /// state or the end is another one.
+    fn same_refusals(&self, chance: &mut Chance) {
+        for i in 0..4 * DAMAGES {
+            let call = chance.index(self.ends.len());
+            let (mut state, mut end) = (self.states[call], self.ends[call]);
+            let mut image = self.image.to_vec();
+            let byte = chance.index(image.len());
+            match i % 4 {
+                0 => image.truncate(byte),
+                1 => image[byte] ^= 1 << chance.below(8),
+                2 => state[chance.index(NUMBERS)] ^= 1 << chance.below(32),
+                _ => end = chance.near(end),
+            }
+            let mut other = state;
+            let went = archive_go_on(&mut state, &image, end);
+            assert_eq!(went, dispatcher::go_on(&mut other, &image, end));
+            assert!(state == other, "the states differ");
+        }
+    }
+
+    /// The times of a call of going on, the archive's first.
+    fn times(&self) -> Vec<f64> {
+        let sides: [GoOn; 2] = [archive_go_on, dispatcher::go_on];
+        let runs = sides.map(|go_on| -> Call { Box::new(move || self.goes_on(go_on)) });
+        let times = side_by_side(runs.into());
+        let calls = self.ends.len() as f64;
+        times.into_iter().map(|time| time / calls).collect()
+    }
+
+    /// The whole run in one record.
+    fn goes_on(&self, go_on: GoOn) -> bool {
+        let mut state = self.states[0];
+        let image = black_box(self.image);
+        let mut ends = self.ends.iter();
+        ends.all(|end| go_on(&mut state, image, *end).is_ok())
+    }
 }
 
 // ---- Time ----

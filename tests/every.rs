@@ -1,8 +1,8 @@
 //! Every table image of some small sets, asked of the archive. The valid timetables of a set are
 //! found by search: accepted are exactly the table images that one of them has, and each is turned
-//! back into that one.
+//! back into that one and dispatched as that one.
 
-use crate::archive::{self, check_tables, rebuild};
+use crate::archive::{self, begin, check_tables, go_on, rebuild, NUMBERS};
 use crate::damage::recount;
 use crate::form::image_text;
 use crate::independent::{
@@ -43,12 +43,12 @@ pub fn compare_all() -> Count {
                 let idles = idles.clone();
                 let image = encode(&table_records(&set, &Tables { idles, inversions }));
                 found += usize::from(timetables.contains_key(&image));
-                compare(&timetables, &image, &mut count);
+                compare(&set, &timetables, &image, &mut count);
             }
         }
         assert_eq!(found, timetables.len(), "every table image is gone through");
         for inner in short_lists(&set) {
-            compare(&timetables, &image_of(&set, &inner), &mut count);
+            compare(&set, &timetables, &image_of(&set, &inner), &mut count);
         }
     }
     count
@@ -74,29 +74,50 @@ struct Case<'a>(&'a [u8]);
 
 impl Display for Case<'_> {
     fn fmt(&self, out: &mut Formatter) -> std::fmt::Result {
-        write!(out, "check2 {}", image_text(self.0))
+        write!(out, "table image {}", image_text(self.0))
     }
 }
 
 /// Compares an image's answers with what the search found and with the independent answer.
-fn compare(timetables: &BTreeMap<Vec<u8>, Vec<u8>>, image: &[u8], count: &mut Count) {
+fn compare(set: &Set, timetables: &Timetables, image: &[u8], count: &mut Count) {
     let case = Case(image);
     let answer = check_tables(&case, image);
     let timetable = timetables.get(image);
-    let right = match timetable {
-        Some(timetable) => {
+    let right = match (timetable, answer) {
+        (Some(entries), Ok(())) => {
+            let timetable = encode(&timetable_records(set, entries));
             let rebuilt = rebuild(&case, timetable.len(), image);
-            answer == Ok(()) && rebuilt.as_ref() == Ok(timetable)
+            rebuilt == Ok(timetable) && dispatched(&case, set, entries)
         }
-        None => answer.is_err() && answer == independent_answer(image),
+        (None, Err(refusal)) => {
+            let begun = begin(&case, image);
+            answer == independent_answer(image) && begun == ([0; NUMBERS], Err(refusal))
+        }
+        _ => false,
     };
     count.images += 1;
     count.accepted += u64::from(answer.is_ok());
     count.differ += u64::from(!right);
     if !right {
-        let found = timetable.map(|timetable| image_text(timetable));
-        println!("{case}\n  archive: {answer:?}\n  timetable: {found:?}");
+        println!("{case}\n  archive: {answer:?}\n  timetable: {timetable:?}");
     }
+}
+
+/// Whether three cycles of the entries are dispatched from an image, each job using its whole time.
+fn dispatched(case: &Case, set: &Set, entries: &[Entry]) -> bool {
+    let (mut state, mut answer) = begin(case, case.0);
+    for cycle in 0..3 {
+        let mut next = vec![0; set.tasks.len()];
+        for Entry { task, start } in entries {
+            let time = cycle * set.hyperperiod + start;
+            if answer != Ok([*task as u64, next[*task], cycle, time]) {
+                return false;
+            }
+            next[*task] += 1;
+            (state, answer) = go_on(case, case.0, &state, time + set.tasks[*task].time);
+        }
+    }
+    true
 }
 
 fn independent_answer(image: &[u8]) -> Result<(), archive::Refusal> {
@@ -111,14 +132,16 @@ fn independent_answer(image: &[u8]) -> Result<(), archive::Refusal> {
 
 // ---- The timetables ----
 
-/// The images of all valid timetables, each under its table image; no two have the same.
-fn timetables_by_tables(set: &Set) -> BTreeMap<Vec<u8>, Vec<u8>> {
+/// The entries of timetables, each under its table image.
+type Timetables = BTreeMap<Vec<u8>, Vec<Entry>>;
+
+/// All valid timetables; no two have the same tables.
+fn timetables_by_tables(set: &Set) -> Timetables {
     let mut found = BTreeMap::new();
     let mut next = vec![0; set.tasks.len()];
     search(set, &mut next, &mut Vec::new(), &mut |entries| {
         let tables = encode(&table_records(set, &irregularities(set, entries)));
-        let timetable = encode(&timetable_records(set, entries));
-        let other = found.insert(tables, timetable);
+        let other = found.insert(tables, entries.to_vec());
         assert_eq!(other, None, "two timetables have the same tables");
     });
     found

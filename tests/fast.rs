@@ -1,7 +1,8 @@
-//! Checking and deriving, checking tables and rebuilding, written for speed under the archive's
-//! limits: no heap, records read in place, no more memory than a few numbers for each task, every
+//! Checking and deriving, checking tables, rebuilding and dispatching, written for speed under the
+//! archive's limits: no heap, records read in place, no more memory than a few numbers for each task, every
 //! decision reads the records at all current offsets, safe code alone.
 
+pub mod dispatcher;
 pub mod unlimited;
 
 #[derive(Clone, Copy, PartialEq, Eq, Debug)]
@@ -251,7 +252,10 @@ fn common_multiple(a: u32, b: u32) -> u32 {
     if a > MOST_HYPERPERIOD || b > MOST_HYPERPERIOD {
         return u32::MAX;
     }
-    let (mut x, mut y) = (a, b);
+    let (mut x, mut y) = (b, a % b);
+    if y == 0 {
+        return a;
+    }
     while y != 0 {
         (x, y) = (y, x % y);
     }

@@ -19,8 +19,10 @@ build() {
 build answers
 cat "$tests"/cases/*.txt | run "$built/answers" --compare
 
-compile_c -std=c11 -Wall -Wextra -Werror -O2 -I "$tests/../include" -o "$built/desk" "$tests/c/desk.c" "$archive"
-run "$built/desk"
+for program in desk drive; do
+    compile_c -std=c11 -Wall -Wextra -Werror -O2 -I "$tests/../include" -o "$built/$program" "$tests/c/$program.c" "$archive"
+    run "$built/$program"
+done
 
 build compare
-run "$built/compare" 1 30000
+run "$built/compare" 1 40000

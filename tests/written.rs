@@ -1,9 +1,14 @@
 //! Cases in their written form, `OP ARGUMENTS [=> ANSWER]`, and what the archive answers to them.
 
-use crate::archive::{check_tables, check_timetable, derive, judge_set, rebuild, Refusal, SLOTS};
+use crate::archive::{
+    begin, check_tables, check_timetable, derive, go_on, judge_set, rebuild, Refusal, Start, State,
+    Step, SLOTS,
+};
 
 /// The operations that the archive has.
-pub const OPERATIONS: [&str; 5] = ["set", "check1", "check2", "derive", "rebuild"];
+pub const OPERATIONS: [&str; 8] = [
+    "set", "check1", "check2", "derive", "rebuild", "begin", "go", "run",
+];
 
 /// The operation of a case.
 pub fn operation(case: &str) -> &str {
@@ -23,6 +28,9 @@ pub fn archive_answer(case: &str) -> Result<String, String> {
         ["rebuild", room, image] => {
             turn_answer(room, image, |room, image| rebuild(&case, room, image))
         }
+        ["begin", image] => bytes_from(image).map(|image| step_text(&begin(&case, &image))),
+        ["go", image, state, end] => go_answer(case, image, state, end),
+        ["run", steps, image] => run_answer(case, steps, image),
         _ if OPERATIONS.contains(&operation(case)) => None,
         _ => {
             return Err(format!(
@@ -66,16 +74,55 @@ fn turn_answer(
     })
 }
 
+fn go_answer(case: &str, image: &str, state: &str, end: &str) -> Option<String> {
+    let state: State = numbers_from(state)?.try_into().ok()?;
+    let step = go_on(&case, &bytes_from(image)?, &state, end.parse().ok()?);
+    Some(step_text(&step))
+}
+
+/// The starts of a beginning and of going on after it, each job reporting start + C; the first
+/// refusal ends the run.
+fn run_answer(case: &str, steps: &str, image: &str) -> Option<String> {
+    let image = bytes_from(image)?;
+    let mut step = begin(&case, &image);
+    let mut told = vec![answer_text(&step.1)];
+    for _ in 1..steps.parse::<u64>().ok()? {
+        let (state, Ok(start)) = step else {
+            break;
+        };
+        let [task, .., time] = start;
+        let declared = state[2 + 4 * (task as usize % SLOTS)];
+        step = go_on(&case, &image, &state, time + u64::from(declared));
+        told.push(answer_text(&step.1));
+    }
+    Some(told.join("|"))
+}
+
+/// A dispatcher's answer with the state after it; a start is named as such.
+fn step_text((state, answer): &Step) -> String {
+    let named = if answer.is_ok() { "start " } else { "" };
+    let numbers: Vec<String> = state.iter().map(u32::to_string).collect();
+    format!("{named}{} state {}", answer_text(answer), numbers.join(","))
+}
+
+fn answer_text(answer: &Result<Start, Refusal>) -> String {
+    match answer {
+        Ok([task, job, cycle, time]) => format!("{task} {job} {cycle} {time}"),
+        Err(refusal) => refusal_text(*refusal),
+    }
+}
+
 fn refusal_text(refusal: Refusal) -> String {
     format!("refused {} {}", refusal.number, refusal.place)
 }
 
 fn task_from(text: &str) -> Option<[u32; 4]> {
-    let numbers: Vec<u32> = text
-        .split(',')
-        .map(|number| number.parse().ok())
-        .collect::<Option<_>>()?;
-    numbers.try_into().ok()
+    numbers_from(text)?.try_into().ok()
+}
+
+/// Numbers separated by commas.
+fn numbers_from(text: &str) -> Option<Vec<u32>> {
+    text.split(',').map(|number| number.parse().ok()).collect()
 }
 
 /// Bytes in hex, `-` for none.

@@ -5,12 +5,13 @@ use crate::damage::{
     aim_at_tables, aim_at_timetable, change_byte, random_record, recount, shuffle_records,
     spoil_end, truncate,
 };
+use crate::dispatcher::State;
 use crate::form::{image_text, state_text, task_text};
 use crate::independent::{
     derive, encode, irregularities, rebuild, table_records, timetable_records, Entry, Record, Set,
     Task, LONGEST_LISTED, TABLES, TIMETABLE,
 };
-use crate::rides::ride;
+use crate::rides::{ride, Ride};
 use crate::sets::{bad_tasks, good_set, large_timetable, timetable};
 
 const ANY_ROOM: u64 = u64::MAX;
@@ -194,20 +195,25 @@ fn list_case(chance: &mut Chance) -> String {
 
 fn go_case(chance: &mut Chance) -> String {
     let number = chance.pick(&GOING_NUMBERS);
-    let ride = ride(chance, number);
-    format!(
-        "go {} {} {}",
-        image_text(&ride.image),
-        state_text(&ride.state),
-        ride.end
-    )
+    let Ride { image, state, end } = ride(chance, number);
+    go_text(&image, &state, end)
+}
+
+pub fn go_text(image: &[u8], state: &State, end: u64) -> String {
+    format!("go {} {} {end}", image_text(image), state_text(state))
 }
 
 /// A run over an accepted image, mostly of two or three cycles.
 fn run_case(chance: &mut Chance) -> String {
-    let (set, entries) = timetable(chance);
-    let image = encode(&table_records(&set, &irregularities(&set, &entries)));
+    let (set, image) = random_tables(chance);
     let jobs = set.all_jobs();
     let steps = chance.between(1, 3 * jobs + 2).min(100);
     format!("run {steps} {}", image_text(&image))
+}
+
+/// A set and the table image of a valid timetable of it.
+pub fn random_tables(chance: &mut Chance) -> (Set, Vec<u8>) {
+    let (set, entries) = timetable(chance);
+    let image = encode(&table_records(&set, &irregularities(&set, &entries)));
+    (set, image)
 }

@@ -1,16 +1,16 @@
 //! Random calls of going on: states reached by dispatching, damaged ones, arbitrary ones, and
 //! bytes that were never accepted.
 
+use crate::cases::random_tables;
 use crate::chance::Chance;
 use crate::damage::{change_byte, id, pv, random_record, ranged_idle, ranged_inversion};
 use crate::dispatcher::{begin, go_on, Offsets, Running, State, LAST_CYCLE, NUMBERS, SLOTS};
 use crate::independent::{
-    encode, instant_with_waiting, irregularities, judge_set, record_length, table_records, Idle,
-    Mark, Record, Set,
+    encode, instant_with_waiting, judge_set, record_length, Idle, Mark, Record, Set,
 };
-use crate::sets::{bad_tasks, good_set, timetable};
+use crate::sets::{bad_tasks, good_set};
 
-const MOST_STEPS: u64 = 50;
+const MOST_STEPS: u64 = 100;
 
 /// A call of going on.
 pub struct Ride {
@@ -37,7 +37,11 @@ pub fn ride(chance: &mut Chance, number: u64) -> Ride {
         }
         _ => {}
     }
-    ride.end = reported_end(chance, &ride.state, number);
+    let aim = match number {
+        0 | 24 | 25 if chance.one_in(15) => chance.pick(&[21, 22]),
+        number => number,
+    };
+    ride.end = reported_end(chance, &ride.state, aim);
     if number == 25 || chance.one_in(20) {
         damage(chance, &mut ride);
     }
@@ -58,13 +62,12 @@ fn numbers_of(state: &State) -> [u64; NUMBERS] {
 
 /// A state reached from the beginning of an accepted image; at a cycle's last start if wanted.
 fn reached(chance: &mut Chance, last: bool) -> Ride {
-    let (set, entries) = timetable(chance);
-    let image = encode(&table_records(&set, &irregularities(&set, &entries)));
+    let (set, image) = random_tables(chance);
     let jobs = set.all_jobs();
     let steps = if last || chance.one_in(4) {
         jobs
     } else {
-        chance.between(1, (2 * jobs + 1).min(MOST_STEPS))
+        chance.between(1, (4 * jobs + 1).min(MOST_STEPS))
     };
     let mut step = begin(&image);
     for _ in 1..steps {
@@ -87,8 +90,8 @@ fn running_times(state: &State) -> Option<(u64, u64)> {
     Some((start, start + task.time))
 }
 
-/// An end that is honest, or early for 21, or late for 22.
-fn reported_end(chance: &mut Chance, state: &State, number: u64) -> u64 {
+/// An end that is honest, or before the start for 21, or late for 22.
+pub fn reported_end(chance: &mut Chance, state: &State, number: u64) -> u64 {
     let Some((start, latest)) = running_times(state) else {
         return chance.field();
     };
@@ -102,7 +105,6 @@ fn reported_end(chance: &mut Chance, state: &State, number: u64) -> u64 {
             u64::MAX,
             latest + (1 << 32),
         ]),
-        _ if chance.one_in(15) => chance.pick(&[before, latest + 1]),
         _ => chance.pick(&[latest, latest, start, (start + latest) / 2]),
     }
 }
@@ -129,7 +131,7 @@ fn fill_slots_above(chance: &mut Chance, state: &mut State) {
 
 /// Damages the state or the bytes, so that 25 becomes likely.
 fn damage(chance: &mut Chance, ride: &mut Ride) {
-    match chance.below(24) {
+    match chance.below(25) {
         0..=2 => change_number(chance, &mut ride.state),
         3 | 4 => damage_set(chance, &mut ride.state),
         5..=8 => damage_running(chance, &mut ride.state),
@@ -138,6 +140,7 @@ fn damage(chance: &mut Chance, ride: &mut Ride) {
         15..=20 => spoil_record(chance, ride),
         21 => change_byte(chance, &mut ride.image),
         22 => ride.state = State::from_numbers(&std::array::from_fn(|_| chance.field())),
+        23 => ride.state = nearly_stopped(chance),
         _ => {
             let length = chance.index(ride.image.len() + 1);
             ride.image.truncate(length);
@@ -145,18 +148,25 @@ fn damage(chance: &mut Chance, ride: &mut Ride) {
     }
 }
 
-/// Changes one number of the state, whichever.
-fn change_number(chance: &mut Chance, state: &mut State) {
+/// The stopped state but for one number.
+fn nearly_stopped(chance: &mut Chance) -> State {
+    let mut numbers = [0; NUMBERS];
+    numbers[chance.index(NUMBERS)] = chance.field();
+    State::from_numbers(&numbers)
+}
+
+/// Changes one number of the state, whichever; one way keeps its lower bits.
+pub fn change_number(chance: &mut Chance, state: &mut State) {
     let mut numbers = numbers_of(state);
     let at = if chance.one_in(3) {
         chance.pick(&[0, 81, 82, 83, 84, 85])
     } else {
         chance.index(NUMBERS)
     };
-    numbers[at] = if chance.one_in(2) {
-        chance.field()
-    } else {
-        chance.near(numbers[at])
+    numbers[at] = match chance.below(5) {
+        0 | 1 => chance.field(),
+        2 | 3 => chance.near(numbers[at]),
+        _ => numbers[at] ^ chance.pick(&[1 << 8, 1 << 16, 1 << 31]),
     };
     *state = State::from_numbers(&numbers);
 }
