@@ -1,4 +1,4 @@
--- What the contracts of this crate leave open: nothing. Any two results that meet one are equal. Assumes nothing.
+-- Any two results that meet a contract of this crate are equal; those of `inversion_keeps` where its arrays are those of a set. Assumes nothing.
 use mathlib.Core.Path.{_≡_, sym, _∙_, ap₂}
 use mathlib.Core.Bool.{Bool}
 use mathlib.Core.List.{List}
