@@ -5,7 +5,11 @@
  * then what hv_begin and hv_go_on say below.
  *
  * No pointer may be null, also where a length is 0. No two regions that are lent to one call may overlap: an image cannot be turned into its other kind in
- * place. No function keeps anything between calls; calls may run at the same time on different memory.
+ * place. Numbers are aligned as C aligns them, images may begin at any byte. No function keeps anything between calls: calls may run at the same time where
+ * none writes what another one is lent, and an image, which is only read, may be lent to several.
+ *
+ * docs/FORMAT.md has the bytes of an image, docs/REFUSALS.md each number with its causes and an image that gives it, docs/INTEGRATION.md the main loop of a
+ * drive and the theorem behind each promise.
  *
  * The numbers and the order in which they come:
  *   1, 2, 3, 4, 5, 10   framing of the whole image, record by record: fewer than two bytes left or bytes end before EN (1), a mark that is not allowed
@@ -19,8 +23,8 @@
  *                       late for its deadline (18); then a record changes nothing, the replayed timetable's own tables are without it (19)
  *   20                  the result is longer than the lent output
  *   21 to 25            going on from a dispatcher's state, see hv_go_on
- * A place is the index of the record at fault, from 0; for 8, 9 and 20 it is 0, for 16 the lowest task number with a job missing, for 18 the index of the
- * late job among the starts.
+ * A place is the index of the record at fault, from 0 (TS is 0, the TK of task i is 1 + i); for 8, 9 and 20 it is 0, for 16 the lowest task number with a
+ * job missing, for 18 the index of the late job among the starts, from 0.
  */
 #ifndef HERVANTYU_H
 #define HERVANTYU_H
@@ -46,7 +50,7 @@ uint32_t hv_judge_set(uint32_t n, const uint32_t tasks[HV_LENT(64)], uint64_t *H
 uint32_t hv_check_timetable(const uint8_t *HV_RESTRICT image, size_t len, uint64_t *HV_RESTRICT place);
 
 /* Derives: turns a timetable image into its table image. Gives 1 to 16 as checking does, then 20. Where nothing is refused the table image fills the front of
- * out, *length is its length, and the bytes of out behind it keep their values. */
+ * out, *length is its length, and the bytes of out behind it keep their values. 11 + 18 * n + 17 * jobs bytes are always enough. */
 uint32_t hv_derive(const uint8_t *HV_RESTRICT image, size_t len, uint8_t *HV_RESTRICT out, size_t room, uint64_t *HV_RESTRICT place,
                    uint64_t *HV_RESTRICT length);
 
@@ -54,13 +58,14 @@ uint32_t hv_derive(const uint8_t *HV_RESTRICT image, size_t len, uint8_t *HV_RES
 uint32_t hv_check_tables(const uint8_t *HV_RESTRICT image, size_t len, uint64_t *HV_RESTRICT place);
 
 /* Rebuilds: turns a table image into the image of the one valid timetable that has these tables. Gives 1 to 10, 17, 18, 19 as checking tables does, then 20.
- * Where nothing is refused the timetable image fills the front of out, *length is its length, and the bytes of out behind it keep their values. */
+ * Where nothing is refused the timetable image fills the front of out, *length is its length, and the bytes of out behind it keep their values. It has
+ * 11 + 18 * n + 7 * jobs bytes. */
 uint32_t hv_rebuild(const uint8_t *HV_RESTRICT image, size_t len, uint8_t *HV_RESTRICT out, size_t room, uint64_t *HV_RESTRICT place,
                     uint64_t *HV_RESTRICT length);
 
 /* The state of a dispatcher: one record, kept by the drive's main loop and changed in place by every call. The stopped state has every number 0. Slots from n
  * up begin at 0, change no start and pass on as they are. The numbers have the processor's own byte order: the record is not for storage, nor for another
- * processor. Later editions add numbers at the end. */
+ * processor. Between calls it may be moved. Later editions add numbers at the end. */
 #define HV_DISPATCHER_NUMBERS 119
 
 struct hv_dispatcher {
@@ -80,14 +85,14 @@ _Static_assert(sizeof(struct hv_dispatcher) == HV_DISPATCHER_NUMBERS * sizeof(ui
 #endif
 
 /* Begins: checks a table image as hv_check_tables does, and answers its first start: task, job, cycle (0), absolute time. Gives 1 to 10, 17, 18, 19 with the
- * places that checking has. What *d held before changes nothing, it need not be set. On a refusal *d is stopped: to try a new image while another one runs,
- * begin with a second record. */
+ * places that checking has. What *d held before changes nothing, it need not be set. On a refusal *d is stopped and start keeps its numbers: to try a new
+ * image while another one runs, begin with a second record. */
 uint32_t hv_begin(struct hv_dispatcher *HV_RESTRICT d, const uint8_t *HV_RESTRICT image, size_t len, uint64_t start[HV_LENT(4)],
                   uint64_t *HV_RESTRICT place);
 
 /* Goes on: the running job has ended at the absolute time end; answers the next start: task, job, cycle, absolute time, which is cycle * H + the time in the
  * cycle. The job is to start at that time, not when the call returns: the processor is taken for the whole declared time, whatever end is reported within it.
- * The numbers in their order, and the state after each:
+ * On a refusal start keeps its numbers. The numbers in their order, and the state after each:
  *   23  *d is stopped; unchanged
  *   25  *d is impossible: its set breaks 5 to 9, a next job number is above H/T, or the running job is not the last one started of a task below n, starts
  *       before its release or ends late; stopped
@@ -100,7 +105,7 @@ uint32_t hv_begin(struct hv_dispatcher *HV_RESTRICT d, const uint8_t *HV_RESTRIC
  * Guarantee, from hv_begin on, that every call is lent the accepted image with not a byte changed, and *d as the call before left it (it may lie elsewhere),
  * and that no call on a record is interrupted by another call on it. Then the starts are, in every cycle, those of the timetable that hv_rebuild gives, in
  * its order and each at its time, and 25 never comes. With ends from each start to its start + C nothing is refused before cycle 4,294,967,295 is over.
- * Whatever else is lent, any bytes and any numbers in *d, the call answers as above. */
+ * Whatever else is lent, any bytes and any numbers in *d, the call answers as above; a change is found (25) only where it makes bytes or state impossible. */
 uint32_t hv_go_on(struct hv_dispatcher *HV_RESTRICT d, const uint8_t *HV_RESTRICT image, size_t len, uint64_t end, uint64_t start[HV_LENT(4)]);
 
 #ifdef __cplusplus

@@ -1,16 +1,19 @@
-//! Every table image of some small sets, asked of the archive. The valid timetables of a set are
-//! found by search: accepted are exactly the table images that one of them has, and each is turned
-//! back into that one and dispatched as that one.
+//! Every timetable and every table image of some small sets. The valid timetables of a set are found
+//! by search: a timetable image is accepted exactly where it is one of these, and derived into its
+//! tables; a table image exactly where one of these has it, and it is rebuilt to that one and
+//! dispatched as that one.
 
-use crate::archive::{self, begin, check_tables, go_on, rebuild, NUMBERS};
+use crate::asking::Asking;
 use crate::damage::recount;
 use crate::form::image_text;
 use crate::independent::{
-    self, encode, irregularities, judge_set, table_records, timetable_records, Entry, Idle,
-    Inversion, Record, Set, Tables, Task,
+    encode, irregularities, judge_set, table_records, timetable_records, Entry, Idle, Inversion,
+    Record, Set, Tables, Task,
 };
 use std::collections::BTreeMap;
-use std::fmt::{Display, Formatter};
+
+/// About so many cases are asked.
+pub const ABOUT: u64 = 190_000;
 
 /// The tasks of the sets, O, C, T and D.
 const SETS: [&[[u64; 4]]; 7] = [
@@ -23,35 +26,23 @@ const SETS: [&[[u64; 4]]; 7] = [
     &[[0, 1, 6, 6], [0, 1, 6, 6], [0, 2, 6, 6]],
 ];
 
-/// How many table images there were, how many are accepted, and how many answers differ.
-#[derive(Default)]
-pub struct Count {
-    pub images: u64,
-    pub accepted: u64,
-    pub differ: u64,
-}
+/// Timetables are gone through where there are at most so many.
+const MOST_TIMETABLES: usize = 15_000;
 
-/// Compares every table image of the sets, and prints those whose answer differs.
-pub fn compare_all() -> Count {
-    let mut count = Count::default();
+/// The entries of valid timetables, each under its table image.
+type Timetables = BTreeMap<Vec<u8>, Vec<Entry>>;
+
+/// Asks about every image of the sets.
+pub fn compare_all(asking: &mut Asking) {
     for tasks in SETS {
         let set = set_of(tasks);
         let timetables = timetables_by_tables(&set);
-        let mut found = 0;
-        for idles in idle_lists(0, set.hyperperiod) {
-            for inversions in inversion_lists(&set) {
-                let idles = idles.clone();
-                let image = encode(&table_records(&set, &Tables { idles, inversions }));
-                found += usize::from(timetables.contains_key(&image));
-                compare(&set, &timetables, &image, &mut count);
-            }
-        }
-        assert_eq!(found, timetables.len(), "every table image is gone through");
+        every_timetable(asking, &set, &timetables);
+        every_tables(asking, &set, &timetables);
         for inner in short_lists(&set) {
-            compare(&set, &timetables, &image_of(&set, &inner), &mut count);
+            about_tables(asking, &set, &timetables, &image_of(&set, &inner));
         }
     }
-    count
 }
 
 fn set_of(tasks: &[[u64; 4]]) -> Set {
@@ -67,73 +58,125 @@ fn set_of(tasks: &[[u64; 4]]) -> Set {
     judge_set(tasks.len() as u64, &tasks).expect("the set is good")
 }
 
+/// Asks about every list of ID and PV records that keep their rule.
+fn every_tables(asking: &mut Asking, set: &Set, timetables: &Timetables) {
+    let mut found = 0;
+    let inversions = inversion_lists(set);
+    for idles in idle_lists(0, set.hyperperiod) {
+        for inversions in &inversions {
+            let (idles, inversions) = (idles.clone(), inversions.clone());
+            let image = encode(&table_records(set, &Tables { idles, inversions }));
+            found += usize::from(timetables.contains_key(&image));
+            about_tables(asking, set, timetables, &image);
+        }
+    }
+    assert_eq!(found, timetables.len(), "every table image is gone through");
+}
+
+/// Asks about every list of up to as many entries as there are jobs, with each task number up to n
+/// and each start up to H, where they are not too many.
+fn every_timetable(asking: &mut Asking, set: &Set, timetables: &Timetables) {
+    let mut each = Vec::new();
+    for task in 0..=set.tasks.len() {
+        each.extend((0..=set.hyperperiod).map(|start| Entry { task, start }));
+    }
+    let jobs = set.all_jobs() as u32;
+    if each.len().saturating_pow(jobs) > MOST_TIMETABLES {
+        return;
+    }
+    let valid: BTreeMap<Vec<u8>, &Vec<u8>> = timetables
+        .iter()
+        .map(|(tables, entries)| (encode(&timetable_records(set, entries)), tables))
+        .collect();
+    let mut found = 0;
+    let mut lists = vec![Vec::new()];
+    for _ in 0..jobs {
+        lists = longer(&lists, &each);
+        for entries in &lists {
+            let image = encode(&timetable_records(set, entries));
+            found += usize::from(valid.contains_key(&image));
+            about_timetable(asking, valid.get(&image).copied(), &image);
+        }
+    }
+    assert_eq!(found, timetables.len(), "every timetable is gone through");
+}
+
+/// Each list with each entry behind it.
+fn longer(lists: &[Vec<Entry>], each: &[Entry]) -> Vec<Vec<Entry>> {
+    let with_each = |list: &Vec<Entry>| {
+        let list = list.clone();
+        each.iter()
+            .map(move |entry| [&list[..], &[*entry]].concat())
+    };
+    lists.iter().flat_map(with_each).collect()
+}
+
 // ---- One image ----
 
-/// A table image as a case, written only where it is shown.
-struct Case<'a>(&'a [u8]);
-
-impl Display for Case<'_> {
-    fn fmt(&self, out: &mut Formatter) -> std::fmt::Result {
-        write!(out, "table image {}", image_text(self.0))
+/// A timetable image is accepted exactly where it is valid, and then derived into these tables.
+fn about_timetable(asking: &mut Asking, tables: Option<&Vec<u8>>, image: &[u8]) {
+    let text = image_text(image);
+    demand(asking, &format!("check1 {text}"), tables.map(|_| "ok"));
+    if let Some(tables) = tables {
+        let (length, result) = (tables.len(), image_text(tables));
+        let case = format!("derive {length} {text}");
+        demand(asking, &case, Some(&format!("ok {length} {result}")));
     }
 }
 
-/// Compares an image's answers with what the search found and with the independent answer.
-fn compare(set: &Set, timetables: &Timetables, image: &[u8], count: &mut Count) {
-    let case = Case(image);
-    let answer = check_tables(&case, image);
-    let timetable = timetables.get(image);
-    let right = match (timetable, answer) {
-        (Some(entries), Ok(())) => {
-            let timetable = encode(&timetable_records(set, entries));
-            let rebuilt = rebuild(&case, timetable.len(), image);
-            rebuilt == Ok(timetable) && dispatched(&case, set, entries)
-        }
-        (None, Err(refusal)) => {
-            let begun = begin(&case, image);
-            answer == independent_answer(image) && begun == ([0; NUMBERS], Err(refusal))
-        }
-        _ => false,
+/// A table image is accepted exactly where a valid timetable has it, and is then turned into that
+/// one and dispatched so over three cycles.
+fn about_tables(asking: &mut Asking, set: &Set, timetables: &Timetables, image: &[u8]) {
+    let text = image_text(image);
+    let entries = timetables.get(image);
+    demand(asking, &format!("check2 {text}"), entries.map(|_| "ok"));
+    let Some(entries) = entries else {
+        demand(asking, &format!("begin {text}"), None);
+        return;
     };
-    count.images += 1;
-    count.accepted += u64::from(answer.is_ok());
-    count.differ += u64::from(!right);
-    if !right {
-        println!("{case}\n  archive: {answer:?}\n  timetable: {timetable:?}");
+    let timetable = encode(&timetable_records(set, entries));
+    let (length, result) = (timetable.len(), image_text(&timetable));
+    let case = format!("rebuild {length} {text}");
+    demand(asking, &case, Some(&format!("ok {length} {result}")));
+    let case = format!("run {} {text}", 3 * entries.len());
+    demand(asking, &case, Some(&starts(set, entries)));
+}
+
+/// Asks a case whose answer the search knows; none stands for a refusal.
+fn demand(asking: &mut Asking, case: &str, expected: Option<&str>) {
+    if asking.over() {
+        return;
+    }
+    let before = asking.differ;
+    let answer = asking.ask(case);
+    let right = match expected {
+        Some(expected) => answer == expected,
+        None => answer.starts_with("refused"),
+    };
+    if !right && asking.differ == before {
+        asking.compare(
+            case,
+            expected.unwrap_or("a refusal: no valid timetable"),
+            &answer,
+        );
     }
 }
 
-/// Whether three cycles of the entries are dispatched from an image, each job using its whole time.
-fn dispatched(case: &Case, set: &Set, entries: &[Entry]) -> bool {
-    let (mut state, mut answer) = begin(case, case.0);
+/// The starts of three cycles of the entries.
+fn starts(set: &Set, entries: &[Entry]) -> String {
+    let mut starts = Vec::new();
     for cycle in 0..3 {
         let mut next = vec![0; set.tasks.len()];
         for Entry { task, start } in entries {
             let time = cycle * set.hyperperiod + start;
-            if answer != Ok([*task as u64, next[*task], cycle, time]) {
-                return false;
-            }
+            starts.push(format!("{task} {} {cycle} {time}", next[*task]));
             next[*task] += 1;
-            (state, answer) = go_on(case, case.0, &state, time + set.tasks[*task].time);
         }
     }
-    true
-}
-
-fn independent_answer(image: &[u8]) -> Result<(), archive::Refusal> {
-    match independent::check_tables(image) {
-        Ok(_) => Ok(()),
-        Err(refusal) => Err(archive::Refusal {
-            number: refusal.number as u32,
-            place: refusal.place as u64,
-        }),
-    }
+    starts.join("|")
 }
 
 // ---- The timetables ----
-
-/// The entries of timetables, each under its table image.
-type Timetables = BTreeMap<Vec<u8>, Vec<Entry>>;
 
 /// All valid timetables; no two have the same tables.
 fn timetables_by_tables(set: &Set) -> Timetables {

@@ -1,6 +1,6 @@
 #!/bin/sh
 # Runs the archive against the stored cases, from C, and against the independent implementation over
-# every table image of some small sets and over random cases. HV_ARCHIVE names another archive than
+# fixed cases, random cases and every image of some small sets. HV_ARCHIVE names another archive than
 # the repository's own.
 set -eu
 
@@ -24,5 +24,4 @@ for program in desk drive; do
     run "$built/$program"
 done
 
-build compare
-run "$built/compare" 1 40000
+HV_ARCHIVE=$archive "$tests/compare.sh" 1 600000

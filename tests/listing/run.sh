@@ -6,9 +6,11 @@ set -eu
 folder=$(cd "$(dirname "$0")" && pwd)
 program=${1:-$folder/../../target/bin/listing}
 test -f "$program" || { echo "no program at $program" >&2; exit 1; }
+archive=${HV_ARCHIVE:-$folder/../../target/staticlib/libhervantyu.a}
 . "$folder/../host.sh"
 cases=$(mktemp)
-trap 'rm -f "$cases"' EXIT
+long=$(mktemp)
+trap 'rm -f "$cases" "$long"' EXIT
 count=0
 differ=0
 
@@ -42,6 +44,11 @@ done <"$cases"
 # The most bytes that are judged, and one more.
 compare "65,536 bytes of 0" "refused 2 0" "$(head -c 65536 /dev/zero | listed)"
 compare "65,537 bytes of 0" "refused 20 0" "$(head -c 65537 /dev/zero | listed)"
+
+# An image that the archive accepts and that is longer.
+compile_rust --edition 2021 -O -D warnings -C link-arg="$archive" -o "$long" "$folder/../long.rs"
+run "$long" >"$cases"
+compare "a valid table image of $(wc -c <"$cases") bytes" "refused 20 0" "$(listed <"$cases")"
 
 echo "$count cases, $differ differ"
 test "$differ" = 0

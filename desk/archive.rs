@@ -1,0 +1,134 @@
+//! The archive's border: its C names, and a safe call for each that this program asks. Every verdict of
+//! the program is an answer from here.
+
+extern "C" {
+    fn hv_judge_set(
+        n: u32,
+        tasks: *const u32,
+        place: *mut u64,
+        hyperperiod: *mut u32,
+        jobs: *mut u32,
+    ) -> u32;
+    fn hv_check_timetable(image: *const u8, len: usize, place: *mut u64) -> u32;
+    fn hv_derive(
+        image: *const u8,
+        len: usize,
+        out: *mut u8,
+        room: usize,
+        place: *mut u64,
+        length: *mut u64,
+    ) -> u32;
+    fn hv_check_tables(image: *const u8, len: usize, place: *mut u64) -> u32;
+    fn hv_rebuild(
+        image: *const u8,
+        len: usize,
+        out: *mut u8,
+        room: usize,
+        place: *mut u64,
+        length: *mut u64,
+    ) -> u32;
+}
+
+type Turn = unsafe extern "C" fn(*const u8, usize, *mut u8, usize, *mut u64, *mut u64) -> u32;
+
+/// No accepted image is longer: TS, 16 TK, an ID and a PV for each of 4,096 jobs, EN.
+pub const LONGEST_ACCEPTED: usize = 5 + 16 * 18 + 4_096 * (8 + 9) + 6;
+
+const SLOTS: usize = 16;
+
+#[derive(Clone, Copy, PartialEq, Eq, Debug)]
+pub enum Kind {
+    Timetable,
+    Tables,
+}
+
+impl Kind {
+    /// The kind that a TS record's byte names.
+    pub fn of_byte(byte: u8) -> Option<Kind> {
+        match byte {
+            1 => Some(Kind::Timetable),
+            2 => Some(Kind::Tables),
+            _ => None,
+        }
+    }
+
+    pub fn number(self) -> u64 {
+        match self {
+            Kind::Timetable => 1,
+            Kind::Tables => 2,
+        }
+    }
+
+    pub fn name(self) -> &'static str {
+        match self {
+            Kind::Timetable => "timetable",
+            Kind::Tables => "table",
+        }
+    }
+}
+
+/// A refusal: its number and its place.
+#[derive(Clone, Copy, PartialEq, Eq, Debug)]
+pub struct Refusal {
+    pub number: u32,
+    pub place: u64,
+}
+
+/// Plain checking of an image of this kind.
+pub fn check(kind: Kind, image: &[u8]) -> Result<(), Refusal> {
+    let function = match kind {
+        Kind::Timetable => hv_check_timetable,
+        Kind::Tables => hv_check_tables,
+    };
+    let mut place = 0;
+    // SAFETY: the image has as many bytes as is said; the place is this function's own.
+    let number = unsafe { function(image.as_ptr(), image.len(), &mut place) };
+    told(number, place)
+}
+
+/// The table image of a timetable image.
+pub fn derive(image: &[u8]) -> Result<Vec<u8>, Refusal> {
+    turn(hv_derive, image)
+}
+
+/// The timetable image of a table image.
+pub fn rebuild(image: &[u8]) -> Result<Vec<u8>, Refusal> {
+    turn(hv_rebuild, image)
+}
+
+/// The hyperperiod and the jobs a cycle of a good set of tasks, each O, C, T, D.
+pub fn judge_set(tasks: &[[u32; 4]]) -> Result<(u32, u32), Refusal> {
+    let mut slots = [[0; 4]; SLOTS];
+    for (slot, task) in slots.iter_mut().zip(tasks) {
+        *slot = *task;
+    }
+    let (mut place, mut hyperperiod, mut jobs) = (0, 0, 0);
+    let n = tasks.len() as u32;
+    // SAFETY: 64 numbers are lent, and three that are this function's own.
+    let number = unsafe {
+        let numbers = slots.as_ptr().cast();
+        hv_judge_set(n, numbers, &mut place, &mut hyperperiod, &mut jobs)
+    };
+    told(number, place).map(|()| (hyperperiod, jobs))
+}
+
+fn turn(function: Turn, image: &[u8]) -> Result<Vec<u8>, Refusal> {
+    let mut out = vec![0; LONGEST_ACCEPTED];
+    let (mut place, mut length) = (0, 0);
+    // SAFETY: image and output have as many bytes as is said, and no two regions overlap.
+    let number = unsafe {
+        let (room, to) = (out.len(), out.as_mut_ptr());
+        let (image, len) = (image.as_ptr(), image.len());
+        function(image, len, to, room, &mut place, &mut length)
+    };
+    told(number, place)?;
+    out.truncate(length as usize);
+    Ok(out)
+}
+
+fn told(number: u32, place: u64) -> Result<(), Refusal> {
+    match number {
+        0 => Ok(()),
+        number => Err(Refusal { number, place }),
+    }
+}

@@ -1,0 +1,94 @@
+//! Verdicts as a person wants them, and document 01's lines for them.
+
+use crate::archive::{derive, Kind, Refusal};
+use crate::explain::explain;
+use crate::records::{decode, Job, Set};
+
+/// The kind that an image is asked as, and whether the file or the user named it.
+#[derive(Clone, Copy)]
+pub struct Asked {
+    pub kind: Kind,
+    pub named: bool,
+}
+
+/// Document 01's line for a verdict.
+pub fn plain(bytes: &[u8], verdict: Result<(), Refusal>) -> String {
+    match verdict {
+        Ok(()) => format!("ok {}\n", Set::of_accepted(&decode(bytes)).jobs),
+        Err(refusal) => refused_line(refusal) + "\n",
+    }
+}
+
+pub fn refused_line(refusal: Refusal) -> String {
+    format!("refused {} {}", refusal.number, refusal.place)
+}
+
+/// A verdict on a named image, in words.
+pub fn verdict(name: &str, bytes: &[u8], asked: Asked, verdict: Result<(), Refusal>) -> String {
+    let kind = asked.kind.name();
+    match verdict {
+        Ok(()) => format!(
+            "{name}: accepted as a {kind} image: {}\n",
+            summary(asked.kind, bytes)
+        ),
+        Err(refusal) => {
+            let line = refused_line(refusal);
+            let told = explanation(bytes, asked, refusal);
+            format!("{name}: {line}, asked as a {kind} image\n{told}")
+        }
+    }
+}
+
+/// What an accepted image holds.
+pub fn summary(kind: Kind, bytes: &[u8]) -> String {
+    let derived = match kind {
+        Kind::Timetable => derive(bytes).expect("an accepted timetable has tables"),
+        Kind::Tables => bytes.to_vec(),
+    };
+    let tables = decode(&derived);
+    let set = Set::of_accepted(&tables);
+    format!(
+        "{}, {} in a cycle of {}; {}, {}",
+        many(set.tasks.len() as u64, "task"),
+        many(set.jobs, "job"),
+        ticks(set.hyperperiod),
+        many(tables.count("ID") as u64, "forced idle"),
+        many(tables.count("PV") as u64, "inversion")
+    )
+}
+
+/// The lines below a refusal's own.
+pub fn explanation(bytes: &[u8], asked: Asked, refusal: Refusal) -> String {
+    let told = explain(bytes, asked.kind, refusal);
+    let mut lines = vec![
+        format!("  place   {}", told.place),
+        format!("  rule    {}", told.rule),
+    ];
+    let broken = told.broken.iter();
+    lines.extend(broken.map(|broken| format!("  broken  {}", broken.text)));
+    lines.extend(told.before.map(|before| format!("  before  {before}")));
+    if !asked.named {
+        lines.push(
+            "  kind    the file does not tell; as a table image unless --kind 1 is given".into(),
+        );
+    }
+    lines.join("\n") + "\n"
+}
+
+// ---- Words ----
+
+pub fn named(job: Job) -> String {
+    format!("task {}'s job {}", job.task, job.job)
+}
+
+pub fn ticks(count: u64) -> String {
+    many(count, "tick")
+}
+
+/// A count with its noun.
+pub fn many(count: u64, noun: &str) -> String {
+    match count {
+        1 => format!("1 {noun}"),
+        _ => format!("{count} {noun}s"),
+    }
+}

@@ -1,0 +1,106 @@
+//! Compares the archive with a second opinion: over fixed cases at the edges of the rules, over
+//! random cases, and over every timetable and every table image of some small sets.
+//! `compare SEED CASES [MOST]` asks so many random cases and ends early after so many differences,
+//! 100 where nothing is said. A difference is a line `CASE => ANSWER` with the second opinion; the
+//! archive's own answer is told on standard error, as is the progress. Last comes how often each
+//! number was given and at how many places; it fails too where one never came.
+
+#[path = "../archive.rs"]
+mod archive;
+mod asking;
+mod came;
+mod edges;
+#[path = "../every.rs"]
+mod every;
+mod far;
+mod images;
+mod large;
+mod limits;
+mod orders;
+mod shapes;
+mod states;
+mod stream;
+mod sweeps;
+mod watch;
+#[path = "../written.rs"]
+mod written;
+
+// What the generators of cases use: the second opinion has a copy of its own, so that a slip in it
+// changes answers and not what is asked.
+#[path = "../independent/cases.rs"]
+mod cases;
+#[path = "../independent/chance.rs"]
+mod chance;
+#[path = "../independent/damage.rs"]
+mod damage;
+#[path = "../independent/dispatcher.rs"]
+mod dispatcher;
+#[allow(dead_code)]
+#[path = "../independent/form.rs"]
+mod form;
+#[allow(dead_code)]
+#[path = "../independent/independent.rs"]
+mod independent;
+#[path = "../independent/journeys.rs"]
+mod journeys;
+#[path = "../independent/rides.rs"]
+mod rides;
+#[path = "../independent/sets.rs"]
+mod sets;
+
+use asking::Asking;
+use std::process::ExitCode;
+
+/// An implementation's answer to a case in its written form; none where it cannot be read.
+pub type Opinion = fn(&str) -> Option<String>;
+
+const MOST_DIFFERENCES: u64 = 100;
+
+/// Compares as the arguments say.
+pub fn compare(arguments: &[String], second: Opinion) -> ExitCode {
+    let numbers: Vec<Option<u64>> = arguments.iter().map(|word| word.parse().ok()).collect();
+    let (seed, count, most) = match numbers[..] {
+        [Some(seed), Some(count)] => (seed, count, MOST_DIFFERENCES),
+        [Some(seed), Some(count), Some(most)] => (seed, count, most),
+        _ => {
+            eprintln!("usage: compare SEED CASES [MOST]");
+            return ExitCode::from(2);
+        }
+    };
+    watch::begin();
+    let mut asking = Asking::new(second, most, edges::ABOUT + count + every::ABOUT);
+    let random = stream::Stream::new(seed).take(count as usize);
+    part(&mut asking, "fixed cases", |all| {
+        all.ask_each(edges::cases())
+    });
+    part(&mut asking, "random cases", |all| all.ask_each(random));
+    part(&mut asking, "cases of small sets", every::compare_all);
+    part(&mut asking, "cases of 4 GiB", far::compare_all);
+    verdict(&asking)
+}
+
+/// Asks one part of the cases and tells how many they were, unless the end has come.
+fn part(asking: &mut Asking, name: &str, ask: impl FnOnce(&mut Asking)) {
+    let before = asking.cases;
+    if !asking.over() {
+        ask(asking);
+    }
+    if !asking.over() {
+        println!("{} {name}", asking.cases - before);
+    }
+}
+
+/// What was asked and what differs, and on a whole run what never came.
+fn verdict(asking: &Asking) -> ExitCode {
+    let missing = if asking.over() {
+        Vec::new()
+    } else {
+        asking.came.print();
+        asking.came.missing()
+    };
+    for line in &missing {
+        println!("{line}");
+    }
+    println!("{} cases, {} differ", asking.cases, asking.differ);
+    ExitCode::from(u8::from(asking.differ > 0 || !missing.is_empty()))
+}

@@ -1,0 +1,86 @@
+#!/bin/sh
+# Tests of the desk program: the samples against their numbers, what it decodes against the archive's answers, its texts and exit statuses against cases.txt,
+# its listing against the listing program's cases, the samples' README against the answers. HV_ARCHIVE names another archive than the repository's own.
+set -eu
+
+folder=$(cd "$(dirname "$0")" && pwd)
+archive=${HV_ARCHIVE:-$folder/../../target/staticlib/libhervantyu.a}
+test -f "$archive" || { echo "no archive at $archive" >&2; exit 1; }
+archive=$(cd "$(dirname "$archive")" && pwd)/$(basename "$archive")
+cd "$folder/../.."
+. tests/host.sh
+built=$(mktemp -d)
+trap 'rm -rf "$built"' EXIT
+
+# Builds a Rust program with the archive: NAME SOURCE.
+build() {
+    compile_rust --edition 2021 -O -D warnings -C link-arg="$archive" -o "$built/$1" "$2"
+}
+
+build samples tests/samples.rs
+run "$built/samples" samples
+
+build agree tests/desk/agree.rs
+run "$built/agree" samples 1 6000
+
+# A command hv for the cases, and a program that lists standard input for the listing's.
+build program desk/main.rs
+mkdir "$built/bin" "$built/T"
+printf '#!/bin/sh\n. "%s/tests/host.sh"\nrun "%s/program" "$@"\n' "$PWD" "$built" >"$built/bin/hv"
+printf '#!/bin/sh\nexec "%s/bin/hv" list --plain --kind 2 -\n' "$built" >"$built/bin/list"
+chmod +x "$built/bin/hv" "$built/bin/list"
+PATH=$built/bin:$PATH
+T=$built/T
+export PATH T
+
+HV_NATIVE=1 tests/listing/run.sh "$built/bin/list"
+
+# Each case is a command behind '$ ', the lines that it prints, and its exit status behind '= '. The folder $T is printed as T.
+count=0
+differ=0
+command=
+while IFS= read -r line; do
+    case $line in
+    '$ '*)
+        command=${line#??}
+        : >"$built/expected"
+        ;;
+    '= '*)
+        count=$((count + 1))
+        status=0
+        sh -c "$command" >"$built/printed" 2>"$built/complaint" || status=$?
+        sed "s|$T|T|g" "$built/printed" >"$built/found"
+        sed "s|$T|T|g; s|^|! |" "$built/complaint" >>"$built/found"
+        echo "= $status" >>"$built/found"
+        echo "$line" >>"$built/expected"
+        if ! cmp -s "$built/expected" "$built/found"; then
+            differ=$((differ + 1))
+            printf '$ %s\n' "$command"
+            diff "$built/expected" "$built/found" || true
+        fi
+        command=
+        ;;
+    *)
+        if test -n "$command"; then
+            printf '%s\n' "$line" >>"$built/expected"
+        fi
+        ;;
+    esac
+done <"$folder/cases.txt"
+
+# Each sample has its line in the samples' README, with its length and its answer.
+for image in samples/*.image; do
+    count=$((count + 1))
+    answer=$(hv check --plain "$image") || true
+    line="| \`${image#samples/}\` | $(($(wc -c <"$image"))) | $answer | "
+    grep -qF "$line" samples/README.md || { differ=$((differ + 1)); echo "samples/README.md has no line $line"; }
+done
+
+# The script at the top builds and runs the program by itself.
+if test -z "${HV_ARCHIVE:-}"; then
+    count=$((count + 1))
+    test "$(./hv check --plain samples/p2.image)" = "ok 7" || { differ=$((differ + 1)); echo "./hv does not check samples/p2.image"; }
+fi
+
+echo "$count commands, $differ differ"
+test "$differ" = 0 && test "$count" -gt 0

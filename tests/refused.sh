@@ -1,0 +1,87 @@
+#!/bin/sh
+# Runs samples/refused on the archive and on the independent implementation, and the program of
+# docs/INTEGRATION.md; looks that the manual's pages agree with both. HV_ARCHIVE names another archive
+# than the repository's own.
+set -eu
+
+tests=$(cd "$(dirname "$0")" && pwd)
+archive=${HV_ARCHIVE:-$tests/../target/staticlib/libhervantyu.a}
+samples=$tests/../samples
+test -f "$archive" || { echo "no archive at $archive" >&2; exit 1; }
+. "$tests/host.sh"
+built=$(mktemp -d)
+trap 'rm -rf "$built"' EXIT
+
+compile_rust --edition 2021 -O -D warnings -C link-arg="$archive" -o "$built/refused" "$tests/refused.rs"
+run "$built/refused" "$tests/.."
+
+compile_c -std=c11 -Wall -Wextra -Werror -O2 -I "$tests/../include" -o "$built/manual" "$tests/c/manual.c" "$archive"
+
+# Runs the manual's program; it has to end with the given status and to write what is on standard
+# input.
+expect() {
+    status=$1
+    shift
+    cat >"$built/expected"
+    ended=0
+    run "$built/manual" "$@" >"$built/written" || ended=$?
+    diff "$built/expected" "$built/written" && test "$ended" = "$status" ||
+        { echo "manual $*: other lines, or status $ended and not $status" >&2; exit 1; }
+}
+
+# Document 01's lines for P2, then the next cycle's; the new image is P5, which is refused.
+expect 0 "$samples/p2.image" "$samples/refused/18-idle-too-long.image" 9 <<'LINES'
+new image refused 18 4
+0 0 0 1
+2 0 1 7
+1 0 7 9
+0 1 9 10
+0 2 12 13
+1 1 13 15
+0 3 15 16
+0 0 20 21
+2 0 21 27
+LINES
+
+# The new image is accepted, and takes over at the second cycle: its idle comes a job later.
+expect 0 "$samples/p2.image" "$samples/refused/00-still-valid.image" 15 <<'LINES'
+0 0 0 1
+2 0 1 7
+1 0 7 9
+0 1 9 10
+0 2 12 13
+1 1 13 15
+0 3 15 16
+0 0 20 21
+2 0 21 27
+1 0 27 29
+0 1 29 30
+0 2 30 31
+1 1 33 35
+0 3 35 36
+0 0 40 41
+LINES
+
+# The image itself is refused: nothing starts.
+expect 1 "$samples/refused/18-idle-too-long.image" "$samples/p2.image" 9 <<'LINES'
+image refused 18 4
+LINES
+
+# Prints the archive's symbols of the given types.
+symbols() {
+    nm "$archive" | awk -v types="$1" 'NF > 1 && index(types, $(NF - 1)) { print $NF }' | sort
+}
+
+# The archive has the header's functions. It needs no more than what a compiler itself asks of a bare
+# machine, and it has no writable data: nothing is kept between calls.
+declared=$(sed -n 's/^uint32_t \(hv_[a-z_]*\)(.*/\1/p' "$tests/../include/hervantyu.h" | sort)
+test "$(symbols T)" = "$declared" || { echo "not the header's functions:" "$(symbols T)" >&2; exit 1; }
+if symbols U | grep -v -x -e memcmp -e memcpy -e memmove -e memset; then
+    echo "the archive needs these functions, and the manual does not name them" >&2
+    exit 1
+fi
+if symbols BbCDdGgSs | grep .; then
+    echo "the archive has this writable data" >&2
+    exit 1
+fi
+echo "the manual's program and the archive's symbols are as the manual says"

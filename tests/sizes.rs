@@ -1,0 +1,446 @@
+//! Measures what the technique is for: the bytes of a table image beside those of the timetable
+//! image that it stands for, over random task sets made as far as the limits allow like document
+//! 000's. Every timetable is checked, derived and rebuilt by the archive, and has to come back byte
+//! for byte.
+
+#[allow(dead_code)]
+mod archive;
+#[allow(dead_code)]
+#[path = "independent/chance.rs"]
+mod chance;
+
+use archive::{check_timetable, derive, rebuild};
+use chance::Chance;
+use std::cmp::Reverse;
+use std::ops::RangeInclusive;
+
+const SEED: u64 = 1;
+const SETS: usize = 1_000;
+const TASKS: RangeInclusive<usize> = 3..=12;
+
+/// Document 000's periods, 1 to 1,000 ms, in ticks of a twentieth of a millisecond: fine enough for
+/// times below the shortest period, and a cycle still has room for three of the longest.
+const SHORTEST: u32 = 20;
+const LONGEST: u32 = 20_000;
+
+/// The highly composite numbers (none below has as many divisors) from the longest period up to
+/// the longest cycle, 65,535.
+const CYCLES: [u32; 6] = [20_160, 25_200, 27_720, 45_360, 50_400, 55_440];
+const MOST_JOBS: u32 = 4_096;
+
+fn main() {
+    let mut chance = Chance::new(SEED);
+    let classes: Vec<Class> = TASKS.map(|n| Class::new(&mut chance, n)).collect();
+    print_sizes(&classes);
+    println!();
+    print_draws(&classes);
+}
+
+/// The sets of so many tasks: what was drawn, and the sizes of their timetables.
+#[derive(Default)]
+struct Class {
+    tasks: usize,
+    too_many_jobs: usize,
+    overloaded: usize,
+    none_found: usize,
+    priority: Vec<Sizes>,
+    irregular: Vec<Sizes>,
+    swapped: Vec<Sizes>,
+}
+
+impl Class {
+    fn new(chance: &mut Chance, tasks: usize) -> Class {
+        let mut class = Class {
+            tasks,
+            ..Class::default()
+        };
+        for number in 0..SETS {
+            let set = class.draw(chance);
+            class.add(&format!("set {number} of {tasks} tasks"), &set);
+        }
+        class
+    }
+
+    /// A set within the limits that does not ask for more than the processor has.
+    fn draw(&mut self, chance: &mut Chance) -> Set {
+        loop {
+            let set = Set::draw(chance, self.tasks);
+            if set.jobs() > MOST_JOBS {
+                self.too_many_jobs += 1;
+            } else if set.busy() > set.hyperperiod {
+                self.overloaded += 1;
+            } else {
+                return set;
+            }
+        }
+    }
+
+    /// Measures the set's timetable by priority, or where that is late the one by CW-EDF.
+    fn add(&mut self, case: &str, set: &Set) {
+        if let Some(jobs) = set.timetable(Set::by_priority) {
+            let sizes = measure(case, set, &jobs);
+            assert_eq!(sizes.records(), 0, "a record by priority: {case}");
+            self.priority.push(sizes);
+        } else if let Some(jobs) = set.timetable(Set::by_cw_edf) {
+            let before = measure(case, set, &jobs);
+            let after = measure(case, set, &set.swapped(jobs));
+            assert!(after.records() > 0, "it is that by priority: {case}");
+            assert_eq!(after.idles, before.idles, "an idle is changed: {case}");
+            assert!(after.inversions <= before.inversions, "added: {case}");
+            self.irregular.push(before);
+            self.swapped.push(after);
+        } else {
+            self.none_found += 1;
+        }
+    }
+}
+
+// ---- Task sets ----
+
+#[derive(Clone, Copy)]
+struct Task {
+    time: u32,
+    period: u32,
+}
+
+/// Tasks in the order of their periods, all released at 0 and due at the end of their period.
+struct Set {
+    tasks: Vec<Task>,
+    hyperperiod: u32,
+}
+
+impl Set {
+    /// Document 000's draw: of the first task the utilization from 0.01 to 0.99, of the others
+    /// the time up to twice what the first one leaves free.
+    fn draw(chance: &mut Chance, n: usize) -> Set {
+        let periods = periods(chance, n);
+        let first = f64::from(periods[0]) * (0.01 + 0.98 * fraction(chance));
+        let first = (first.round() as u32).clamp(1, periods[0] - 1);
+        let most = u64::from(2 * (periods[0] - first));
+        let mut time = |i: usize| match i {
+            0 => first,
+            _ => chance.between(1, most) as u32,
+        };
+        let tasks = periods.iter().enumerate();
+        Set {
+            tasks: tasks
+                .map(|(i, &period)| Task {
+                    time: time(i),
+                    period,
+                })
+                .collect(),
+            hyperperiod: periods.iter().copied().fold(1, common_multiple),
+        }
+    }
+
+    fn jobs(&self) -> u32 {
+        let tasks = self.tasks.iter();
+        tasks.map(|task| self.hyperperiod / task.period).sum()
+    }
+
+    /// The ticks of a cycle that the jobs take.
+    fn busy(&self) -> u32 {
+        let tasks = self.tasks.iter();
+        tasks
+            .map(|task| self.hyperperiod / task.period * task.time)
+            .sum()
+    }
+}
+
+/// Periods that are log-uniform, each then replaced by the nearest divisor of one cycle.
+fn periods(chance: &mut Chance, n: usize) -> Vec<u32> {
+    let cycle = chance.pick(&CYCLES);
+    let parts = (1..=cycle / SHORTEST).filter(|part| cycle % part == 0);
+    let divisors = parts.map(|part| cycle / part).filter(|d| *d <= LONGEST);
+    let divisors: Vec<u32> = divisors.collect();
+    let (low, high) = (f64::from(SHORTEST).ln(), f64::from(LONGEST).ln());
+    let mut nearest = || {
+        let drawn = low + (high - low) * fraction(chance);
+        let distance = |d: &u32| (f64::from(*d).ln() - drawn).abs();
+        let by_distance = |a: &&u32, b: &&u32| distance(a).total_cmp(&distance(b));
+        *divisors.iter().min_by(by_distance).expect("there are some")
+    };
+    let mut periods: Vec<u32> = (0..n).map(|_| nearest()).collect();
+    periods.sort();
+    periods
+}
+
+/// A number from 0 up to 1.
+fn fraction(chance: &mut Chance) -> f64 {
+    (chance.number() >> 11) as f64 / (1_u64 << 53) as f64
+}
+
+fn common_multiple(a: u32, b: u32) -> u32 {
+    let mut pair = (a, b);
+    while pair.1 > 0 {
+        pair = (pair.1, pair.0 % pair.1);
+    }
+    a / pair.0 * b
+}
+
+// ---- Timetables ----
+
+/// A job in a timetable.
+#[derive(Clone, Copy)]
+struct Job {
+    task: usize,
+    release: u32,
+    start: u32,
+}
+
+/// The release of a task's next job where the cycle has no more of them.
+const NEVER: u32 = u32::MAX;
+
+/// Given the releases of the tasks' next jobs and an instant at which one waits, the task that
+/// starts; none for idling until the next release.
+type Policy = fn(&Set, &[u32], u32) -> Option<usize>;
+
+impl Set {
+    /// The timetable that a policy gives, if it meets every deadline.
+    fn timetable(&self, policy: Policy) -> Option<Vec<Job>> {
+        let mut releases = vec![0; self.tasks.len()];
+        let mut jobs = Vec::new();
+        let mut instant = 0;
+        loop {
+            let least = *releases.iter().min().expect("there are tasks");
+            if least == NEVER {
+                return Some(jobs);
+            }
+            instant = instant.max(least);
+            let Some(task) = policy(self, &releases, instant) else {
+                let later = releases.iter().filter(|release| **release > instant);
+                instant = *later.min().expect("a policy idles for a later job");
+                continue;
+            };
+            let job = Job {
+                task,
+                release: releases[task],
+                start: instant,
+            };
+            if self.end(job) > self.due(job) {
+                return None;
+            }
+            jobs.push(job);
+            instant = self.end(job);
+            releases[task] = match self.due(job) {
+                next if next < self.hyperperiod => next,
+                _ => NEVER,
+            };
+        }
+    }
+
+    /// Plain priority: NP-RM.
+    fn by_priority(&self, releases: &[u32], instant: u32) -> Option<usize> {
+        releases.iter().position(|release| *release <= instant)
+    }
+
+    /// CW-EDF: the waiting job that is due first, unless the next jobs of the tasks without a
+    /// waiting one could then not all meet their deadlines.
+    fn by_cw_edf(&self, releases: &[u32], instant: u32) -> Option<usize> {
+        let due = |i: &usize| releases[*i] + self.tasks[*i].period;
+        let tasks = 0..releases.len();
+        let waiting = tasks.clone().filter(|i| releases[*i] <= instant);
+        let urgent = waiting.min_by_key(due).expect("a job waits");
+        let later = |i: &usize| instant < releases[*i] && releases[*i] < NEVER;
+        let mut others: Vec<usize> = tasks.filter(later).collect();
+        others.sort_by_key(|i| Reverse(due(i)));
+        // The latest instant at which the others, the last due last, can begin.
+        let latest = others.iter().fold(NEVER, |latest, i| {
+            latest.min(due(i)).saturating_sub(self.tasks[*i].time)
+        });
+        (instant + self.tasks[urgent].time <= latest).then_some(urgent)
+    }
+
+    /// Document 000's pass that removes inversions, on neighbours: two jobs back to back change
+    /// places where the second has priority over the first, waits at the first's start, and
+    /// leaves it time enough. No other job moves.
+    fn swapped(&self, mut jobs: Vec<Job>) -> Vec<Job> {
+        let mut again = true;
+        while again {
+            again = false;
+            for i in 1..jobs.len() {
+                let (mut first, mut second) = (jobs[i - 1], jobs[i]);
+                let inverted = second.task < first.task && second.release <= first.start;
+                let back_to_back = self.end(first) == second.start;
+                if inverted && back_to_back && self.end(second) <= self.due(first) {
+                    second.start = first.start;
+                    first.start = self.end(second);
+                    (jobs[i - 1], jobs[i]) = (second, first);
+                    again = true;
+                }
+            }
+        }
+        jobs
+    }
+
+    fn end(&self, job: Job) -> u32 {
+        job.start + self.tasks[job.task].time
+    }
+
+    fn due(&self, job: Job) -> u32 {
+        job.release + self.tasks[job.task].period
+    }
+
+    /// The stretches of the cycle in which no job runs.
+    fn gaps(&self, jobs: &[Job]) -> usize {
+        let ends = [0].into_iter().chain(jobs.iter().map(|job| self.end(*job)));
+        let starts = jobs.iter().map(|job| job.start).chain([self.hyperperiod]);
+        ends.zip(starts).filter(|(end, start)| end < start).count()
+    }
+
+    /// The timetable image.
+    fn image(&self, jobs: &[Job]) -> Vec<u8> {
+        let mut image = vec![b'T', b'S', 1, 1, self.tasks.len() as u8];
+        for Task { time, period } in &self.tasks {
+            image.extend(b"TK");
+            image.extend([0, *time, *period, *period].map(u32::to_be_bytes).concat());
+        }
+        for job in jobs {
+            image.extend([b'S', b'L', job.task as u8]);
+            image.extend(job.start.to_be_bytes());
+        }
+        image.extend(b"EN");
+        image.extend((1 + self.tasks.len() as u32 + jobs.len() as u32).to_be_bytes());
+        image
+    }
+}
+
+// ---- Sizes ----
+
+/// What is counted of a timetable.
+struct Sizes {
+    utilization: f64,
+    jobs: usize,
+    gaps: usize,
+    idles: usize,
+    inversions: usize,
+    timetable: usize,
+    tables: usize,
+}
+
+impl Sizes {
+    fn records(&self) -> usize {
+        self.idles + self.inversions
+    }
+
+    /// The bytes of document 000's stored table: 4 for each job and for each gap.
+    fn stored(&self) -> usize {
+        4 * (self.jobs + self.gaps)
+    }
+
+    /// The bytes of document 000's irregularity tables: 6 a record.
+    fn irregular(&self) -> usize {
+        6 * self.records()
+    }
+}
+
+/// The sizes of a timetable, which the archive has to accept and to rebuild from its tables.
+fn measure(case: &str, set: &Set, jobs: &[Job]) -> Sizes {
+    let image = set.image(jobs);
+    assert_eq!(check_timetable(&case, &image), Ok(()), "{case}");
+    // Room for an ID, 8 bytes, and a PV, 9, in the place of each SL, 7.
+    let tables = derive(&case, image.len() + 10 * jobs.len(), &image).expect(case);
+    let rebuilt = rebuild(&case, image.len(), &tables).expect(case);
+    assert!(rebuilt == image, "another timetable is rebuilt: {case}");
+    let (idles, inversions) = irregularities(&tables, set.tasks.len());
+    Sizes {
+        utilization: f64::from(set.busy()) / f64::from(set.hyperperiod),
+        jobs: jobs.len(),
+        gaps: set.gaps(jobs),
+        idles,
+        inversions,
+        timetable: image.len(),
+        tables: tables.len(),
+    }
+}
+
+/// The ID and the PV records of a table image, which stand between the tasks and EN.
+fn irregularities(tables: &[u8], n: usize) -> (usize, usize) {
+    let records = &tables[5 + 18 * n..tables.len() - 6];
+    let idles = records.chunks(8).take_while(|id| id.starts_with(b"ID"));
+    let idles = idles.count();
+    (idles, (records.len() - 8 * idles) / 9)
+}
+
+// ---- The tables that are printed ----
+
+fn print_sizes(classes: &[Class]) {
+    println!(
+        "| tasks | timetable by | sets | utilization | jobs | records | records/jobs \
+         | timetable image | table image | ratio | 10th | 90th | most \
+         | mean idles | mean inversions | 000: stored | 000: irregular |"
+    );
+    println!("|{}", "---|".repeat(17));
+    for class in classes {
+        print_row(class.tasks, "priority", &class.priority);
+        print_row(class.tasks, "CW-EDF", &class.irregular);
+        print_row(class.tasks, "CW-EDF, swapped", &class.swapped);
+    }
+}
+
+/// Medians, the ratio's percentiles, and means, which document 000 gives.
+fn print_row(tasks: usize, made: &str, sizes: &[Sizes]) {
+    assert!(!sizes.is_empty(), "no set of {tasks} tasks: {made}");
+    let middle = |of: fn(&Sizes) -> usize| grouped(percentile(sizes, 50, |s| of(s) as f64));
+    let share = |s: &Sizes| s.records() as f64 / s.jobs as f64;
+    let ratio = |s: &Sizes| s.tables as f64 / s.timetable as f64;
+    println!(
+        "| {tasks} | {made} | {} | {:.2} | {} | {} | {:.3} | {} | {} | {:.3} | {:.3} | {:.3} | {:.3} \
+         | {:.1} | {:.1} | {} | {} |",
+        sizes.len(),
+        percentile(sizes, 50, |s| s.utilization),
+        middle(|s| s.jobs),
+        middle(Sizes::records),
+        percentile(sizes, 50, share),
+        middle(|s| s.timetable),
+        middle(|s| s.tables),
+        percentile(sizes, 50, ratio),
+        percentile(sizes, 10, ratio),
+        percentile(sizes, 90, ratio),
+        percentile(sizes, 100, ratio),
+        mean(sizes, |s| s.idles),
+        mean(sizes, |s| s.inversions),
+        grouped(mean(sizes, Sizes::stored)),
+        grouped(mean(sizes, Sizes::irregular)),
+    );
+}
+
+fn print_draws(classes: &[Class]) {
+    println!(
+        "| tasks | drawn again: above 4,096 jobs | drawn again: utilization above 1 | sets \
+         | by priority | by CW-EDF | none found |"
+    );
+    println!("|{}", "---|".repeat(7));
+    for class in classes {
+        println!(
+            "| {} | {} | {} | {} | {} | {} | {} |",
+            class.tasks,
+            grouped(class.too_many_jobs as f64),
+            grouped(class.overloaded as f64),
+            grouped(SETS as f64),
+            class.priority.len(),
+            class.irregular.len(),
+            class.none_found,
+        );
+    }
+}
+
+/// The value at so many hundredths of the way through the sorted values.
+fn percentile(sizes: &[Sizes], percent: usize, of: impl Fn(&Sizes) -> f64) -> f64 {
+    let mut values: Vec<f64> = sizes.iter().map(of).collect();
+    values.sort_by(f64::total_cmp);
+    values[(values.len() - 1) * percent / 100]
+}
+
+fn mean(sizes: &[Sizes], of: fn(&Sizes) -> usize) -> f64 {
+    sizes.iter().map(of).sum::<usize>() as f64 / sizes.len() as f64
+}
+
+/// A whole number with a comma before its last three digits.
+fn grouped(value: f64) -> String {
+    let value = value.round() as u64;
+    match value {
+        0..=999 => value.to_string(),
+        _ => format!("{},{:03}", value / 1_000, value % 1_000),
+    }
+}
