@@ -1,6 +1,6 @@
 //! Checking and deriving, checking tables, rebuilding and dispatching, written for speed under the
-//! archive's limits: no heap, records read in place, no more memory than a few numbers for each task, every
-//! decision reads the records at all current offsets, safe code alone.
+//! archive's limits: no heap, records read in place, no more memory than a few numbers for each task, safe
+//! code alone.
 
 pub mod dispatcher;
 pub mod unlimited;
@@ -599,14 +599,13 @@ fn replay(tables: &Tables, mut each: impl FnMut(usize, u32)) -> Result<(), Refus
     while started < jobs.all {
         let releases = next.iter().map(|next| next.release);
         let instant = releases.fold(u32::MAX, u32::min).max(free);
-        let (waiting, due) = waiting_and_due(image, next, instant);
         if let Some(length) = idle_at(image, id, instant) {
             id += ID;
             free = instant + length;
             continue;
         }
-        let chosen = if due != 0 { due } else { waiting };
-        let slot = chosen.trailing_zeros() as usize % SLOTS;
+        let waiting = waiting(next, instant);
+        let slot = chosen(image, next, waiting, instant);
         let (task, next) = (&jobs.tasks[slot], &mut next[slot]);
         if instant - next.release > task.slack {
             return refuse(18, started);
@@ -630,16 +629,29 @@ fn replay(tables: &Tables, mut each: impl FnMut(usize, u32)) -> Result<(), Refus
     all_used(tables, id, useless)
 }
 
-/// The tasks that wait and those whose PV is for this instant, one bit for each.
+/// The tasks that wait, one bit for each.
 #[inline(always)]
-fn waiting_and_due(image: &[u8], next: &[Next], instant: u32) -> (u32, u32) {
-    let (mut waiting, mut due) = (0, 0);
-    for (slot, next) in next.iter().enumerate() {
-        let wanted = next.own | u64::from(instant.wrapping_sub(next.release));
-        waiting |= u32::from(next.release <= instant) << slot;
-        due |= u32::from(inversion_at(image, next.pv) == wanted) << slot;
+fn waiting(next: &[Next], instant: u32) -> u32 {
+    let bits = next.iter().rev();
+    bits.fold(0, |waiting, next| {
+        2 * waiting | u32::from(next.release <= instant)
+    })
+}
+
+/// The lowest waiting task whose PV is for this instant, else the lowest that waits.
+#[inline(always)]
+fn chosen(image: &[u8], next: &[Next], waiting: u32, instant: u32) -> usize {
+    let mut left = waiting;
+    while left != 0 {
+        let slot = left.trailing_zeros() as usize;
+        let task = &next[slot];
+        let wanted = task.own | u64::from(instant - task.release);
+        if inversion_at(image, task.pv) == wanted {
+            return slot;
+        }
+        left &= left - 1;
     }
-    (waiting, due)
+    waiting.trailing_zeros() as usize % SLOTS
 }
 
 /// What the PV at an offset holds behind its first byte; 0 where EN is.

@@ -15,20 +15,18 @@ use Rattle.rules.specs.Priority.{setting, least-release}
 use Rattle.rules.specs.Decision.{idle-for, idle-at}
 use Rattle.rules.specs.Marks.{ID, size, body-length}
 use Rattle.rules.specs.Offsets.{Shown, unreadable, no-record, shows, last-offset, lent, idle-now, past-idle, readable, tasks-readable, all-readable, next-start}
-use Rattle.rules.proofs.Cases.{by-bool, both-in, clash}
+use Rattle.rules.proofs.Cases.{by-bool, both-in, clash, differ}
 use Rattle.rules.proofs.NextTurns.{shown-choice, lent-in-range, next-unreadable, next-idles}
 use Rattle.decision.specs.declared.IdleShown.{IdleShown}
 use Rattle.decision.specs.declared.IdleShown.the-variants.{Unreadable, NoRecord, Shows}
-use Rattle.decision.specs.declared.NextStart.{NextStart as Answer}
 use Rattle.decision.specs.declared.NextStart.the-variants.{Stuck}
 use Rattle.records.specs.Fits.{SetFits}
 use Rattle.decision.specs.Fits.{Fits}
-use Rattle.decision.specs.Shown.{idle-case, ReadTo, RecordsRead}
+use Rattle.decision.specs.Shown.{idle-case}
 use Rattle.decision.specs.Waiting.{least-of}
-use Rattle.decision.specs.Next.{next-case, next-of, StartsAt}
+use Rattle.decision.specs.Next.{next-case, next-of, StartsAt, Idling, IdledTo}
 use Rattle.decision.proofs.WholeRecords.{idle-after}
 use Rattle.decision.proofs.Fitting.{is-hyperperiod, least-by-end, least-as}
-use Rattle.decision.proofs.Starting.{tasks-read-all}
 
 -- the answer that the ID offset cannot be read
 idle-unread : (k : Shown Idle) → Unreadable ≡ idle-case k → readable k ≡ false
@@ -62,8 +60,8 @@ module _ (ts : List Task) (bytes x : List ℕ) (f : ℕ) (offsets : List ℕ) (o
       let all : all-readable (setting ts) (lent bytes ts) offsets o ≡ false = rw (idle-unread (lent bytes ts .idle-shown o) e) in
       ap (next-case ts bytes x offsets) (sym (next-unreadable bytes ts x f (instant (setting ts) x f) offsets o refl all))
 
-  module _ (h n : ℕ) (many slack releases instants : List ℕ) (fits : Fits ts h n many slack x releases)
-      (read : ReadTo ts bytes x offsets instants (length ts)) (by-end : f ≤ h) (t : ℕ) (is-instant : t ≡ max f (least-of n h releases)) where
+  module _ (h n : ℕ) (many slack releases : List ℕ) (fits : Fits ts h n many slack x releases)
+      (read : tasks-readable (lent bytes ts) n offsets ≡ true) (by-end : f ≤ h) (t : ℕ) (is-instant : t ≡ max f (least-of n h releases)) where
     -- the instant of the decision
     instant-as : instant (setting ts) x f ≡ t
     instant-as =
@@ -76,7 +74,7 @@ module _ (ts : List Task) (bytes x : List ℕ) (f : ℕ) (offsets : List ℕ) (o
 
     -- it is left to the tasks
     to-tasks : readable (lent bytes ts .idle-shown o) ≡ true → idle-now (lent bytes ts .idle-shown o) t ≡ none →
-        StartsAt ts bytes x f h n slack releases instants offsets o t
+        StartsAt ts bytes x f h n slack releases offsets o t
     to-tasks can none-now = record {
       many = many;
       fits = fits;
@@ -88,12 +86,12 @@ module _ (ts : List Task) (bytes x : List ℕ) (f : ℕ) (offsets : List ℕ) (o
     }
 
     -- no idle record is left
-    pub no-idle-left : NoRecord ≡ idle-case (lent bytes ts .idle-shown o) → StartsAt ts bytes x f h n slack releases instants offsets o t
+    pub no-idle-left : NoRecord ≡ idle-case (lent bytes ts .idle-shown o) → StartsAt ts bytes x f h n slack releases offsets o t
     no-idle-left e = let shown = idle-none (lent bytes ts .idle-shown o) e in to-tasks (rw shown) (rw shown)
 
     module _ (r : Idle) (shown : Shows r ≡ idle-case (lent bytes ts .idle-shown o)) where
       -- the idle record is for another instant
-      pub idle-other : (r .start ≡ t → ⊥) → StartsAt ts bytes x f h n slack releases instants offsets o t
+      pub idle-other : (r .start ≡ t → ⊥) → StartsAt ts bytes x f h n slack releases offsets o t
       idle-other other =
           idle-some (lent bytes ts .idle-shown o) r shown (λ after e. to-tasks (rw e) (rw (e, ne-eqb (r .start) t other, idle-at)))
 
@@ -112,95 +110,92 @@ module _ (ts : List Task) (bytes x : List ℕ) (f : ℕ) (offsets : List ℕ) (o
           idle-some (lent bytes ts .idle-shown o) r shown
           (λ after e.
           let all : all-readable (setting ts) (lent bytes ts) offsets o ≡ true =
-          both-in (readable (lent bytes ts .idle-shown o)) _ (rw e) (tasks-read-all (lent bytes ts) (length ts) offsets (read .can-read)) in
+          both-in (readable (lent bytes ts .idle-shown o)) _ (rw e) (rw (fits .set .n-tasks) at read) in
           let choice : shown-choice (setting ts) (lent bytes ts) x t offsets o ≡ idle-for (r .length) = rw (e, eq-eqb (r .start) t now, idle-at) in
           let past : past-idle (lent bytes ts .idle-shown o) o ≡ o + size ID = rw e (idle-after ts bytes o r after e .0) in
           next-idles bytes ts x f t offsets o instant-as (r .length) all choice
           ∙ ap (next-start (setting ts) (lent bytes ts) x (t + r .length) offsets) past)
 
--- from an instant and an ID offset on, the next start is the one that was asked for, for every set that fits
-pub record Decides (bytes : List ℕ) (n h : ℕ) (many slack x releases : List ℕ) (free idle : ℕ) (offsets instants : List ℕ) (first from o : ℕ)
-    : Type 0 where
+-- a task's offset cannot be read, as the answer whether all can be tells
+pub tasks-told-unread : (bytes : List ℕ) {n : ℕ} {many slack : List ℕ} (offsets : List ℕ) {all-there : Bool} →
+    ((ts : List Task) (k : ℕ) → SetFits ts k n many slack → all-there ≡ tasks-readable (lent bytes ts) n offsets) → (free idle : ℕ) {h : ℕ}
+    {x releases : List ℕ} → all-there ≡ false → (ts : List Task) → Fits ts h n many slack x releases → Stuck 25 ≡ next-of ts bytes x free offsets idle
+tasks-told-unread bytes offsets told free idle {h} {x} e ts fits =
+    tasks-unread ts bytes x free offsets idle (rw (fits .set .n-tasks) at (sym (told ts h (fits .set)) ∙ e))
+
+-- from an instant and an ID offset on, the next start is the one that was asked for, whatever fits
+pub record Decides (bytes : List ℕ) (n h : ℕ) (many slack : List ℕ) (first free idle from o : ℕ) : Type 0 where
   pub by-end : from ≤ h
-  pub is-first : first ≡ least-of n h releases
-  pub read : (ts : List Task) → Fits ts h n many slack x releases → ReadTo ts bytes x offsets instants (length ts)
-  pub same : (ts : List Task) → Fits ts h n many slack x releases →
+  pub same : (ts : List Task) (x releases offsets : List ℕ) → Idling ts bytes h n many slack x releases offsets first →
       next-start (setting ts) (lent bytes ts) x from offsets o ≡ next-start (setting ts) (lent bytes ts) x free offsets idle
 
-module _ {bytes : List ℕ} {n h : ℕ} {many slack x releases offsets : List ℕ} where
-  -- the tasks' offsets, read
-  module _ {all-there : Bool} {instants : List ℕ}
-      (records : (ts : List Task) (k : ℕ) → Fits ts k n many slack x releases → RecordsRead ts bytes x offsets all-there instants) where
-    -- a task's offset cannot be read
-    pub decides-unread : (free idle : ℕ) → all-there ≡ false → (ts : List Task) → Fits ts h n many slack x releases →
-        Stuck 25 ≡ next-of ts bytes x free offsets idle
-    decides-unread free idle e ts fits = tasks-unread ts bytes x free offsets idle (records ts h fits .one-unread e)
+module _ {bytes : List ℕ} {n h : ℕ} {many slack : List ℕ} {first free idle from o : ℕ}
+    (d : Decides bytes n h many slack first free idle from o) {t : ℕ} (is-instant : t ≡ max from first) {answer : IdleShown}
+    (shown : (ts : List Task) → SetFits ts h n many slack → answer ≡ idle-case (lent bytes ts .idle-shown o))
+    (ts : List Task) (x releases offsets : List ℕ) (i : Idling ts bytes h n many slack x releases offsets first) where
+  -- the instant, by the least of releases
+  by-least : t ≡ max from (least-of n h releases)
+  by-least = is-instant ∙ ap (max from) (i .is-first)
 
-    -- all can be read
-    pub decides-first : {free : ℕ} (idle : ℕ) → all-there ≡ true → free ≤ h → {first : ℕ} → first ≡ least-of n h releases →
-        Decides bytes n h many slack x releases free idle offsets instants first free idle
-    decides-first idle e by-end is-first = record {
-      by-end = by-end;
-      is-first = is-first;
-      read = λ ts fits. records ts h fits .all-read e;
-      same = λ ts fits. refl;
-    }
+  -- what is decided here is the answer
+  decided-here : next-of ts bytes x from offsets o ≡ next-of ts bytes x free offsets idle
+  decided-here = ap (next-case ts bytes x offsets) (d .same ts x releases offsets i)
 
-  -- one decision, with the answer of what the ID offset shows
-  module _ {free idle : ℕ} {instants : List ℕ} {first from o : ℕ}
-      (d : Decides bytes n h many slack x releases free idle offsets instants first from o) {t : ℕ} (is-instant : t ≡ max from first) {answer : IdleShown}
-      (shown : (ts : List Task) → SetFits ts h n many slack → answer ≡ idle-case (lent bytes ts .idle-shown o)) where
-    -- the instant, by the least of releases
-    by-least : t ≡ max from (least-of n h releases)
-    by-least = is-instant ∙ ap (max from) (d .is-first)
+  -- the ID offset cannot be read
+  pub idled-unread : answer ≡ Unreadable → IdledTo ts bytes h n slack x releases offsets free idle (record { readable = false; start = t; idle = o })
+  idled-unread e = record {
+    unread = λ z. idle-unreadable ts bytes x from offsets o (sym e ∙ shown ts (i .fits .set)) ∙ decided-here;
+    read = λ z. differ (sym z);
+  }
 
-    -- what is decided here is the answer
-    pub decided-here : (ts : List Task) → Fits ts h n many slack x releases → {a : Answer} → a ≡ next-of ts bytes x from offsets o →
-        a ≡ next-of ts bytes x free offsets idle
-    decided-here ts fits e = e ∙ ap (next-case ts bytes x offsets) (d .same ts fits)
+  -- the start is decided here
+  idled-here : StartsAt ts bytes x from h n slack releases offsets o t →
+      IdledTo ts bytes h n slack x releases offsets free idle (record { readable = true; start = t; idle = o })
+  idled-here s = record { unread = λ z. differ z; read = λ z. (from, s, decided-here) }
 
-    -- the ID offset cannot be read
-    pub decides-unreadable : answer ≡ Unreadable → (ts : List Task) → Fits ts h n many slack x releases →
-        Stuck 25 ≡ next-of ts bytes x free offsets idle
-    decides-unreadable e ts fits = decided-here ts fits (idle-unreadable ts bytes x from offsets o (sym e ∙ shown ts (fits .set)))
+  -- the offset shows no idle record
+  pub idled-none : answer ≡ NoRecord → IdledTo ts bytes h n slack x releases offsets free idle (record { readable = true; start = t; idle = o })
+  idled-none e =
+      idled-here
+      (no-idle-left ts bytes x from offsets o h n many slack releases (i .fits) (i .tasks-read) (d .by-end) t by-least (sym e ∙ shown ts (i .fits .set)))
 
-    -- it shows no idle record
-    pub starts-none : answer ≡ NoRecord → (ts : List Task) → Fits ts h n many slack x releases →
-        StartsAt ts bytes x from h n slack releases instants offsets o t
-    starts-none e ts fits =
-        no-idle-left ts bytes x from offsets o h n many slack releases instants fits (d .read ts fits) (d .by-end) t by-least
-        (sym e ∙ shown ts (fits .set))
+  module _ {r : Idle} (shows-it : answer ≡ Shows r) where
+    -- it shows one for another instant
+    pub idled-other : (r .start ≡ t → ⊥) → IdledTo ts bytes h n slack x releases offsets free idle (record { readable = true; start = t; idle = o })
+    idled-other other =
+        idled-here
+        (idle-other ts bytes x from offsets o h n many slack releases (i .fits) (i .tasks-read) (d .by-end) t by-least r
+        (sym shows-it ∙ shown ts (i .fits .set)) other)
 
-    module _ {r : Idle} (shows-it : answer ≡ Shows r) where
-      -- it shows one for another instant
-      pub starts-other : (r .start ≡ t → ⊥) → (ts : List Task) → Fits ts h n many slack x releases →
-          StartsAt ts bytes x from h n slack releases instants offsets o t
-      starts-other other ts fits =
-          idle-other ts bytes x from offsets o h n many slack releases instants fits (d .read ts fits) (d .by-end) t by-least r
-          (sym shows-it ∙ shown ts (fits .set)) other
+    module _ (now : r .start ≡ t) where
+      -- one for this instant ends in the cycle, and at or before the last offset
+      pub used-fits : (1 ≤ r .length) × (t + r .length < h) × (o + size ID ≤ last-offset)
+      used-fits =
+          let w = idle-fits ts bytes x from offsets o h n many slack releases (i .fits) (i .tasks-read) (d .by-end) t by-least r
+          (sym shows-it ∙ shown ts (i .fits .set)) in
+          (w .0, omega (arith, w .1), w .2)
 
-      module _ (now : r .start ≡ t) (ts : List Task) (fits : Fits ts h n many slack x releases) where
-        -- one for this instant ends in the cycle, and at or before the last offset
-        pub used-fits : (1 ≤ r .length) × (t + r .length < h) × (o + size ID ≤ last-offset)
-        used-fits =
-            let w = idle-fits ts bytes x from offsets o h n many slack releases instants fits (d .read ts fits) (d .by-end) t by-least r
-            (sym shows-it ∙ shown ts (fits .set)) in
-            (w .0, omega (arith, w .1), w .2)
+      -- less of the cycle is left behind it
+      pub less-left : h - (t + r .length) < h - from
+      less-left = omega (arith, used-fits .0, used-fits .1)
 
-        -- and is used
-        pub decides-again : {len : ℕ} → len ≡ body-length ID →
-            Decides bytes n h many slack x releases free idle offsets instants first (t + r .length) (o + (len + 2))
-        decides-again is-length = record {
-          by-end = omega (arith, used-fits .1);
-          is-first = d .is-first;
-          read = d .read;
-          same = λ us others. rw is-length
-              (sym
-              (idle-used us bytes x from offsets o h n many slack releases instants others (d .read us others) (d .by-end) t by-least r
-              (sym shows-it ∙ shown us (others .set)) now)
-              ∙ d .same us others);
-        }
+      -- and it is used
+      used-again : {len : ℕ} → len ≡ body-length ID →
+          next-start (setting ts) (lent bytes ts) x (t + r .length) offsets (o + (len + 2)) ≡ next-start (setting ts) (lent bytes ts) x free offsets idle
+      used-again is-length =
+          rw is-length
+          (sym
+          (idle-used ts bytes x from offsets o h n many slack releases (i .fits) (i .tasks-read) (d .by-end) t by-least r
+          (sym shows-it ∙ shown ts (i .fits .set)) now)
+          ∙ d .same ts x releases offsets i)
 
-        -- less of the cycle is left
-        pub less-left : h - (t + r .length) < h - from
-        less-left = omega (arith, used-fits .0, used-fits .1)
+-- an idle record that is used leads on, as some set fits
+pub decides-again : {bytes : List ℕ} {n h : ℕ} {many slack : List ℕ} {first free idle from o : ℕ}
+    (d : Decides bytes n h many slack first free idle from o) {t : ℕ} (is-instant : t ≡ max from first) {answer : IdleShown}
+    (shown : (ts : List Task) → SetFits ts h n many slack → answer ≡ idle-case (lent bytes ts .idle-shown o))
+    (ts : List Task) (x releases offsets : List ℕ) → Idling ts bytes h n many slack x releases offsets first → {r : Idle} → answer ≡ Shows r →
+    r .start ≡ t → {len : ℕ} → len ≡ body-length ID → Decides bytes n h many slack first free idle (t + r .length) (o + (len + 2))
+decides-again d is-instant shown ts x releases offsets i shows-it now is-length = record {
+  by-end = omega (arith, used-fits d is-instant shown ts x releases offsets i shows-it now .1);
+  same = λ us y others places j. used-again d is-instant shown us y others places j shows-it now is-length;
+}

@@ -10,11 +10,10 @@ use lib.ListN.{length, getD}
 use borrow.Author.Tests.{ltb-true, ltb-false, leb-true, lt-ltb, le-ltb, le-leb, lt-leb}
 use Rattle.fields.specs.Body.{head₀, tail₀}
 use Rattle.rules.specs.declared.Task.{Task}
-use Rattle.rules.specs.declared.Idle.{Idle}
 use Rattle.rules.specs.declared.Inversion.{Inversion}
 use Rattle.rules.specs.Tasks.{task, release, jobs, hyperperiod, KeepsItsRule}
 use Rattle.rules.specs.Priority.{slot, is-left, waiting, least-release}
-use Rattle.rules.specs.Judging.{idle-in-range, inversion-in-range}
+use Rattle.rules.specs.Judging.{inversion-in-range}
 use Rattle.rules.proofs.Cases.{by-bool, by-le, both-true}
 use Rattle.rules.proofs.PriorityLaws.{due-in-cycle}
 use Rattle.rules.proofs.GoodSets.{set-good}
@@ -82,25 +81,6 @@ module _ {ts : List Task} {h n : ℕ} {many slack x releases : List ℕ} (fits :
       rw (fits .set .n-tasks)
       (least-left h ts x releases (λ i l k. fits .releases-there i (omega (arith, fits .set .n-tasks)))
       (λ i l k. past-cycle i (omega (arith, fits .set .n-tasks)) k))
-
--- an ID's own rule, in three tests
-module _ (h : ℕ) (r : Idle) where
-  -- its length is 0
-  pub idle-empty : r .length < 1 → false ≡ idle-in-range h r
-  idle-empty none-long = rw (lt-leb 1 (r .length) none-long)
-
-  module _ (some-long : 1 ≤ r .length) where
-    -- it starts at the end of the cycle or later
-    pub idle-past : h ≤ r .start → false ≡ idle-in-range h r
-    idle-past past = rw (le-leb 1 (r .length) some-long, le-ltb (r .start + r .length) h (omega arith))
-
-    -- its length is compared with what is left of the cycle
-    pub idle-ends : r .start < h → ltb (r .length) (h - r .start) ≡ idle-in-range h r
-    idle-ends before =
-        rw (le-leb 1 (r .length) some-long)
-        (by-le (h - r .start) (r .length)
-        (λ over. rw (le-ltb (r .length) (h - r .start) over, le-ltb (r .start + r .length) h (omega arith)))
-        (λ under. rw (lt-ltb (r .length) (h - r .start) under, lt-ltb (r .start + r .length) h (omega arith))))
 
 -- a PV's own rule, by what is given of the set
 module _ {ts : List Task} {h n : ℕ} {many slack : List ℕ} (fits : SetFits ts h n many slack) (r : Inversion) where

@@ -2,7 +2,8 @@ pub mod Masks
 pub mod Scans
 pub mod WholeRecords
 pub mod Fitting
-pub mod Starting
 pub mod Reading
+pub mod Looking
+pub mod Starting
 pub mod Deciding
 pub mod Promises

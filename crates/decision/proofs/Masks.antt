@@ -1,18 +1,21 @@
 -- The mask of the numbers that pass a test: its lowest bit is the lowest of them, and what setting and clearing a bit come to. Assumes nothing.
-use mathlib.Core.Path.{_≡_, refl, sym, _∙_, ap}
+use mathlib.Core.Path.{_≡_, refl, sym, _∙_, ap, ap₂}
 use mathlib.Core.Bool.{Bool, true, false}
 use mathlib.Core.Option.{Option, none, some}
 use Prim.Native.Nat.{ℕ, zero, suc, _+_, _*_, _-_, _/_, _%_, _^_, _≤_, _<_}
 use native.Mathlib.Nat.{add-zero, zero-add, add-suc, suc-add, one-mul, pow-suc, mod-eq-of-lt}
 use native.Mathlib.Omega.{arith}
 use lib.Dec.{eqb}
-use lib.Bits.{bitOr, bitAnd, and-block, and-zero-l, and-zero-r, and-mask, or-shifted-r}
+use lib.Bits.{bitAnd, and-block, and-zero-l, and-zero-r, and-mask, and-self, or-shifted}
 use lib.Count.{trailingZeros}
 use lib.Pow.{pow-mono, pow-lt, pow-pos}
 use borrow.Author.Tests.{eq-eqb, ne-eqb}
 use Rattle.rules.specs.Timetable.{pick}
 use Rattle.rules.specs.Setting.{lowest-from, lowest}
-use Rattle.rules.proofs.Cases.{by-bool, clash}
+use Rattle.rules.proofs.Cases.{by-bool, by-option, by-eq, by-le, clash, differ}
+use Rattle.rules.proofs.Lowest.{lowest-from-some}
+use Rattle.rules.proofs.LateJobs.{lowest-from-below}
+use Rattle.rules.proofs.Inversions.{below-lowest}
 use Rattle.decision.specs.Waiting.{bit, mask-from, mask-of, set-bit, clear-bit, task-number}
 
 -- a bit behind doubled ones is the parity
@@ -36,7 +39,7 @@ bit-and-one true = refl
 bit-and-one false = refl
 
 -- no bit of 0 is set
-zero-empty : (k : ℕ) → trailingZeros k 0 ≡ k
+pub zero-empty : (k : ℕ) → trailingZeros k 0 ≡ k
 unfolding trailingZeros
 zero-empty zero = refl
 zero-empty (suc k) = ap suc (zero-empty k)
@@ -86,24 +89,34 @@ mask-below (suc many) i p =
     by-bool (p i) (λ b. rw b (omega (arith, mask-below many (suc i) p, pow-suc 2 many)))
     (λ b. rw b (omega (arith, mask-below many (suc i) p, pow-suc 2 many)))
 
--- one number more is one bit more
-mask-more : (many i : ℕ) (p : ℕ → Bool) → mask-from (suc many) i p ≡ bit (p (i + many)) * 2 ^ many + mask-from many i p
+-- and of more bits
+pub mask-small : (many i : ℕ) (p : ℕ → Bool) (k : ℕ) → many ≤ k → mask-from many i p < 2 ^ k
+mask-small many i p k h = omega (arith, mask-below many i p, pow-mono {i = many} {j = k} h)
+
+-- from one number further down on, the mask is doubled and has that number's bit
+mask-down : (n i : ℕ) (p : ℕ → Bool) → i < n → mask-from (n - i) i p ≡ mask-from (n - suc i) (suc i) p * 2 + bit (p i)
 unfolding mask-from
-mask-more zero i p = rw (add-zero i) (by-bool (p i) (λ b. rw b (omega arith)) (λ b. rw b (omega arith)))
-mask-more (suc many) i p =
-    let rest = mask-more many (suc i) p in
-    rw (rest, suc-add i many, add-suc i many)
-    (by-bool (p (suc (i + many))) (λ b. rw b (omega (arith, pow-suc 2 many))) (λ b. rw b (omega (arith, pow-suc 2 many))))
+mask-down n i p h = let one-more : n - i ≡ suc (n - suc i) = omega arith in rw one-more
 
--- where it passes, its bit is set
-pub mask-set : (many : ℕ) (p : ℕ → Bool) → p many ≡ true → set-bit (mask-of many p) many ≡ mask-of (suc many) p
-mask-set many p e =
-    ap (bitOr (mask-of many p)) (sym (one-mul (2 ^ many))) ∙ or-shifted-r 1 many (mask-of many p) (mask-below many 0 p)
-    ∙ sym (mask-more many 0 p ∙ rw (zero-add many, e))
+-- the lowest bit of a doubled mask is free to be set
+doubled-set : (m : ℕ) → set-bit (m * 2) 0 ≡ m * 2 + 1
+doubled-set m = or-shifted m 1 1 (omega arith)
 
--- where it does not, the mask stays
-pub mask-kept : (many : ℕ) (p : ℕ → Bool) → p many ≡ false → mask-of many p ≡ mask-of (suc many) p
-mask-kept many p e = sym (mask-more many 0 p ∙ rw (zero-add many, e) (omega arith))
+-- where that number passes, its bit is set
+pub mask-set : (n i : ℕ) (p : ℕ → Bool) → i < n → p i ≡ true → set-bit (mask-from (n - suc i) (suc i) p * 2) 0 ≡ mask-from (n - i) i p
+mask-set n i p h e = doubled-set (mask-from (n - suc i) (suc i) p) ∙ sym (mask-down n i p h ∙ rw e)
+
+-- where it does not, doubling is all
+pub mask-kept : (n i : ℕ) (p : ℕ → Bool) → i < n → p i ≡ false → mask-from (n - suc i) (suc i) p * 2 ≡ mask-from (n - i) i p
+mask-kept n i p h e = sym (mask-down n i p h ∙ rw e (add-zero (mask-from (n - suc i) (suc i) p * 2)))
+
+-- where none passes, the mask is 0
+mask-none : (many i : ℕ) (p : ℕ → Bool) → lowest-from many i p ≡ none → mask-from many i p ≡ 0
+unfolding mask-from
+mask-none zero i p e = refl
+mask-none (suc many) i p e =
+    by-bool (p i) (λ b. let g : some i ≡ none = rw (b, lowest-from) at e in clash (cc))
+    (λ b. rw (b, mask-none many (suc i) p (rw (b, lowest-from) at e)))
 
 -- tests that agree on the numbers in question have the same mask
 mask-same : (many i : ℕ) (p q : ℕ → Bool) → ((j : ℕ) → i ≤ j → p j ≡ q j) → mask-from many i p ≡ mask-from many i q
@@ -116,7 +129,7 @@ abbrev pub other-than : ℕ → (ℕ → Bool) → ℕ → Bool
 other-than i p j = pick (eqb j i) false (p j)
 
 -- it does not
-same-fails : (i : ℕ) (p : ℕ → Bool) → other-than i p i ≡ false
+pub same-fails : (i : ℕ) (p : ℕ → Bool) → other-than i p i ≡ false
 same-fails i p = rw (eq-eqb i i refl)
 
 -- the others stay
@@ -146,11 +159,98 @@ mask-without (suc k) (suc many) i (suc j) p h l =
     rw (cut, add-suc i j, other-kept (suc (i + j)) p i (λ e. omega arith))
     (and-block 1 (mask-from many (suc i) p) (2 ^ k - 1 - 2 ^ j) (bit (p i)) 1 (bit-below (p i)) (bit-below true) ∙ rw (bit-and-one, rest, suc-add))
 
+-- so it does of a mask of 16
+pub mask-clear : (many i : ℕ) (p : ℕ → Bool) → many ≤ 16 → i < 16 → clear-bit (mask-of many p) i ≡ mask-of many (other-than i p)
+mask-clear many i p h l = rw (zero-add i) at (mask-without 16 many 0 i p h l)
+
 -- the lowest of the others, by a mask whose bit is cleared
 pub lowest-other : (many i : ℕ) (p : ℕ → Bool) → many ≤ 16 → i < 16 →
     trailingZeros 16 (clear-bit (mask-of many p) i) ≡ task-number (lowest many (other-than i p))
-lowest-other many i p h l = ap (trailingZeros 16) (rw (zero-add i) at (mask-without 16 many 0 i p h l)) ∙ mask-lowest many (other-than i p) h
+lowest-other many i p h l = ap (trailingZeros 16) (mask-clear many i p h l) ∙ mask-lowest many (other-than i p) h
+
+-- the lowest of the others is above the lowest
+other-above : (many : ℕ) (p : ℕ → Bool) (i j : ℕ) → lowest many p ≡ some i → lowest many (other-than i p) ≡ some j → i < j
+other-above many p i j e g =
+    let passes : other-than i p j ≡ true = lowest-from-some many 0 (other-than i p) j g in
+    by-eq j i (λ q. differ (sym (rw q at passes) ∙ same-fails i p))
+    (λ q. by-le j i
+    (λ below. differ (sym passes ∙ other-kept i p j q ∙ below-lowest many 0 p i e j (omega arith) (omega arith)))
+    (λ above. above))
+
+-- a mask, by its bits
+module _ (many : ℕ) (p : ℕ → Bool) (few : many ≤ 16) {mask : ℕ} (is-mask : mask ≡ mask-of many p) where
+  -- its lowest bit, as a number
+  pub lowest-number : trailingZeros 16 mask ≡ task-number (lowest many p)
+  lowest-number = ap (trailingZeros 16) is-mask ∙ mask-lowest many p few
+
+  -- where it is 0, none passes
+  pub mask-empty : mask ≡ 0 → lowest many p ≡ none
+  mask-empty e =
+      by-option (lowest many p) (λ g. g)
+      (λ j g.
+      let at-16 : 16 ≡ j = sym (zero-empty 16) ∙ ap (trailingZeros 16) (sym e) ∙ lowest-number ∙ ap task-number g in
+      absurd (omega (arith, lowest-from-below many 0 p j g)))
+
+  -- where it is not, its lowest bit is the lowest that passes
+  pub mask-some : (mask ≡ 0 → ⊥) → {i : ℕ} → i ≡ trailingZeros 16 mask → lowest many p ≡ some i
+  mask-some full {i} is-lowest =
+      by-option (lowest many p) (λ g. absurd (full (is-mask ∙ mask-none many 0 p g)))
+      (λ j g. let same : j ≡ i = sym (is-lowest ∙ lowest-number ∙ ap task-number g) in g ∙ ap some same)
+
+  -- with that bit cleared, the lowest bit is a higher one
+  pub cleared-above : {i : ℕ} → lowest many p ≡ some i → i < trailingZeros 16 (clear-bit mask i)
+  cleared-above {i} e =
+      let below = lowest-from-below many 0 p i e in
+      let now : trailingZeros 16 (clear-bit mask i) ≡ task-number (lowest many (other-than i p)) =
+      ap (λ (m : ℕ). trailingZeros 16 (clear-bit m i)) is-mask ∙ lowest-other many i p few (omega arith) in
+      by-option (lowest many (other-than i p)) (λ g. let at : trailingZeros 16 (clear-bit mask i) ≡ 16 = now ∙ ap task-number g in omega arith)
+      (λ j g. let at : trailingZeros 16 (clear-bit mask i) ≡ j = now ∙ ap task-number g in omega (arith, other-above many p i j e g))
 
 -- a bit shifted to a place below 16
 pub shifted-bit : (i : ℕ) → i < 16 → 1 * 2 ^ i % 65536 ≡ 2 ^ i
 shifted-bit i h = rw one-mul (mod-eq-of-lt (pow-lt h))
+
+-- the lowest bit of a number of k bits is one of them
+lowest-inside : (k m : ℕ) → 1 ≤ m → m < 2 ^ k → trailingZeros k m < k
+unfolding trailingZeros
+lowest-inside zero m h l = absurd (omega arith)
+lowest-inside (suc k) m h l =
+    by-eq (m % 2) 0
+    (λ even. let rest = lowest-inside k (m / 2) (omega arith) (omega (arith, pow-suc 2 k)) in rw even (omega arith))
+    (λ odd. let one : m % 2 ≡ 1 = omega arith in rw one (omega arith))
+
+-- a number and the one before it have all bits but the lowest in common
+before-common : (k m : ℕ) → 1 ≤ m → m < 2 ^ k → bitAnd m (m - 1) ≡ bitAnd m (2 ^ k - 1 - 2 ^ trailingZeros k m)
+unfolding trailingZeros
+before-common zero m h l = absurd (omega arith)
+before-common (suc k) m h l =
+    let r : ℕ = m / 2 in
+    let few : r < 2 ^ k = omega (arith, pow-suc 2 k) in
+    by-eq (m % 2) 0
+    (λ even.
+    let full : 1 ≤ r = omega arith in
+    let j : ℕ = trailingZeros k r in
+    let below : 2 ^ j < 2 ^ k = pow-lt {i = j} {j = k} (lowest-inside k r full few) in
+    let whole : m ≡ r * 2 + 0 = omega arith in
+    let before : m - 1 ≡ (r - 1) * 2 + 1 = omega arith in
+    let cut : 2 ^ suc k - 1 - 2 ^ suc j ≡ (2 ^ k - 1 - 2 ^ j) * 2 + 1 = omega (arith, pow-suc 2 k, pow-suc 2 j) in
+    let rest = before-common k r full few in
+    let later : trailingZeros (suc k) m ≡ suc j = rw even in
+    ap₂ bitAnd whole before ∙ and-block 1 r (r - 1) 0 1 (bit-below false) (bit-below true)
+    ∙ ap (λ (x : ℕ). x * 2 + bitAnd 0 1) rest
+    ∙ sym (ap₂ bitAnd whole (ap (λ (x : ℕ). 2 ^ suc k - 1 - 2 ^ x) later ∙ cut)
+    ∙ and-block 1 r (2 ^ k - 1 - 2 ^ j) 0 1 (bit-below false) (bit-below true)))
+    (λ odd.
+    let is-one : m % 2 ≡ 1 = omega arith in
+    let whole : m ≡ r * 2 + 1 = omega arith in
+    let before : m - 1 ≡ r * 2 + 0 = omega arith in
+    let cut : 2 ^ suc k - 1 - 2 ^ 0 ≡ (2 ^ k - 1) * 2 + 0 = omega (arith, pow-suc 2 k, pow-pos k) in
+    let first : trailingZeros (suc k) m ≡ 0 = rw is-one in
+    ap₂ bitAnd whole before ∙ and-block 1 r r 1 0 (bit-below true) (bit-below false)
+    ∙ ap (λ (x : ℕ). x * 2 + bitAnd 1 0) (and-self r ∙ sym (and-mask r k ∙ mod-eq-of-lt few))
+    ∙ sym (ap₂ bitAnd whole (ap (λ (x : ℕ). 2 ^ suc k - 1 - 2 ^ x) first ∙ cut)
+    ∙ and-block 1 r (2 ^ k - 1) 1 0 (bit-below true) (bit-below false)))
+
+-- so that clears the lowest bit of a mask of 16
+pub lowest-cleared : (mask : ℕ) → 1 ≤ mask → mask < 65536 → bitAnd mask (mask - 1) ≡ clear-bit mask (trailingZeros 16 mask)
+lowest-cleared mask h l = before-common 16 mask h l

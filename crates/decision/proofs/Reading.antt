@@ -1,210 +1,125 @@
--- The tasks' offsets in turn: what is read of one task more. Assumes nothing.
+-- The tasks' offsets in turn: whether each can be read, on which sets that fit the same arrays agree. Assumes nothing.
 use mathlib.Core.Path.{_≡_, refl, sym, _∙_, ap}
-use mathlib.Core.Bool.{true, false}
+use mathlib.Core.Bool.{Bool, true, false}
 use mathlib.Core.List.{List}
-use mathlib.Core.Option.{none, some}
-use Prim.Native.Nat.{ℕ, _+_, _≤_, _<_}
+use Prim.Native.Nat.{ℕ, zero, suc, _+_, _≤_, _<_}
 use native.Mathlib.Omega.{arith}
-use lib.ListN.{length, getD, set, replicate, length-set, getD-replicate}
-use lib.Seq.{getD-set-same, getD-set-other}
-use borrow.Author.Tests.{eq-eqb, ne-eqb}
+use lib.ListN.{getD}
+use Rattle.fields.specs.Body.{head₀, tail₀}
 use Rattle.rules.specs.declared.Task.{Task}
 use Rattle.rules.specs.declared.Inversion.{Inversion}
-use Rattle.rules.specs.Tasks.{task, release, hyperperiod}
-use Rattle.rules.specs.Priority.{slot, setting}
-use Rattle.rules.specs.Offsets.{Shown, unreadable, no-record, shows, lent, is-of, own-delay, readable, tasks-readable, shown-delays}
-use Rattle.rules.proofs.Cases.{by-eq, clash, differ}
-use Rattle.rules.proofs.GoodSets.{good-rules}
+use Rattle.rules.specs.Tasks.{hyperperiod}
+use Rattle.rules.specs.Priority.{slot}
+use Rattle.rules.specs.Judging.{inversion-in-range}
+use Rattle.rules.specs.Marks.{Mark, TS, TK, SL, ID, PV, EN, size}
+use Rattle.rules.specs.Image.{to-inversion}
+use Rattle.rules.specs.Offsets.{Shown, unreadable, no-record, shows, Source, record-at, shown-if, inversion-by, lent, readable, tasks-readable}
+use Rattle.rules.proofs.Cases.{by-bool, by-option, by-eq, by-le, both-true}
 use Rattle.decision.specs.declared.InversionShown.{InversionShown}
-use Rattle.decision.specs.declared.InversionShown.the-variants.{Unreadable, NoRecord, Shows}
+use Rattle.decision.specs.declared.InversionShown.the-variants.{Unreadable}
 use Rattle.records.specs.Fits.{SetFits}
-use Rattle.decision.specs.Fits.{Fits}
-use Rattle.decision.specs.Shown.{inversion-case, no-instant, named-instant, ReadTo, RecordsRead}
+use Rattle.decision.specs.Shown.{inversion-case}
 use Rattle.decision.proofs.Scans.{slot-getD}
-use Rattle.decision.proofs.WholeRecords.{inversion-after}
-use Rattle.decision.proofs.Fitting.{is-hyperperiod, a-task, recorded-before}
-use Rattle.decision.proofs.Starting.{one-unreadable}
+use Rattle.decision.proofs.WholeRecords.{inversion-unread}
+use Rattle.decision.proofs.Fitting.{set-hyperperiod, no-such-task, no-such-job, its-delay}
 
--- the answer that a task's offset cannot be read
-inversion-unread : (k : Shown Inversion) → Unreadable ≡ inversion-case k → readable k ≡ false
-inversion-unread unreadable e = refl
-inversion-unread no-record e = clash (cc)
-inversion-unread (shows r after) e = clash (cc)
+-- offsets that can be read one by one can be read all together
+pub tasks-read-all : (S : Source) (m : ℕ) (offsets : List ℕ) → ((i : ℕ) → i < m → readable (S .inversion-shown (slot offsets i)) ≡ true) →
+    tasks-readable S m offsets ≡ true
+tasks-read-all S zero offsets each = refl
+tasks-read-all S (suc m) offsets each = rw (each 0 (omega arith)) (tasks-read-all S m (tail₀ offsets) (λ i l. each (suc i) (omega arith)))
 
--- that it shows no record
-inversion-none : (k : Shown Inversion) → NoRecord ≡ inversion-case k → k ≡ no-record
-inversion-none unreadable e = clash (cc)
-inversion-none no-record e = refl
-inversion-none (shows r after) e = clash (cc)
+-- and those that can be read all together, one by one
+pub tasks-read-each : (S : Source) (m : ℕ) (offsets : List ℕ) → tasks-readable S m offsets ≡ true → (i : ℕ) → i < m →
+    readable (S .inversion-shown (slot offsets i)) ≡ true
+tasks-read-each S zero offsets e i l = absurd (omega arith)
+tasks-read-each S (suc m) offsets e zero l = both-true (readable (S .inversion-shown (head₀ offsets))) _ e .0
+tasks-read-each S (suc m) offsets e (suc i) l =
+    tasks-read-each S m (tail₀ offsets) (both-true (readable (S .inversion-shown (head₀ offsets))) _ e .1) i (omega arith)
 
--- that it shows one
-inversion-some : {A : Type 0} (k : Shown Inversion) (r : Inversion) → Shows r ≡ inversion-case k → ((after : ℕ) → k ≡ shows r after → A) → A
-inversion-some unreadable r e go = clash (cc)
-inversion-some no-record r e go = clash (cc)
-inversion-some (shows q after) r e go = let same : r ≡ q = cc in go after (rw same)
+-- where one cannot, they cannot
+one-unreadable : (S : Source) (m : ℕ) (offsets : List ℕ) (i : ℕ) → i < m → readable (S .inversion-shown (slot offsets i)) ≡ false →
+    tasks-readable S m offsets ≡ false
+one-unreadable S zero offsets i l e = absurd (omega arith)
+one-unreadable S (suc m) offsets zero l e = rw e
+one-unreadable S (suc m) offsets (suc i) l e =
+    by-bool (readable (S .inversion-shown (head₀ offsets))) (λ b. rw b (one-unreadable S m (tail₀ offsets) i (omega arith) e)) (λ b. rw b)
 
--- an array's element is what its slot holds
-module _ (ts : List Task) (bytes offsets : List ℕ) (i : ℕ) where
-  -- what the offset in slot i shows
-  abbrev at-slot : Shown Inversion
-  at-slot = lent bytes ts .inversion-shown (slot offsets i)
+-- two sets that fit the same arrays
+module _ {ts us : List Task} {h k n : ℕ} {many slack : List ℕ} (fits : SetFits ts h n many slack) (other : SetFits us k n many slack) where
+  -- a PV is in its own range for both or for neither
+  same-range : (r : Inversion) → inversion-in-range ts h r ≡ inversion-in-range us k r
+  same-range r =
+      by-le n (r .task) (λ past. sym (no-such-task fits r past) ∙ no-such-task other r past)
+      (λ a-task. by-le (getD many (r .task) 0) (r .job) (λ past. sym (no-such-job fits r a-task past) ∙ no-such-job other r a-task past)
+      (λ before. sym (its-delay fits r a-task before) ∙ its-delay other r a-task before))
 
-  -- and the offset that is element i
-  abbrev at-element : Shown Inversion
-  at-element = lent bytes ts .inversion-shown (getD offsets i 0)
+  -- so a task's offset shows the same
+  same-shown : (bytes : List ℕ) (o : ℕ) → lent bytes ts .inversion-shown o ≡ lent bytes us .inversion-shown o
+  same-shown bytes o = by-option (record-at bytes o) (λ e. rw e) (λ r e. rw e (by-mark (r .mark) (r .values)))
+    where
+      -- by the mark of a record that is read
+      by-mark : (m : Mark) (v : List ℕ) → inversion-by ts o m v ≡ inversion-by us o m v
+      by-mark TS v = refl
+      by-mark TK v = refl
+      by-mark SL v = refl
+      by-mark ID v = refl
+      by-mark PV v =
+          let range : inversion-in-range ts (hyperperiod ts) (to-inversion v) ≡ inversion-in-range us (hyperperiod us) (to-inversion v) =
+          rw (set-hyperperiod fits, set-hyperperiod other) at (same-range (to-inversion v)) in
+          ap (λ (b : Bool). shown-if b (shows (to-inversion v) (o + size PV))) range
+      by-mark EN v = refl
 
-  -- the two are one
-  same-offset : at-element ≡ at-slot
-  same-offset = ap (lent bytes ts .inversion-shown) (sym (slot-getD offsets i))
+  -- and the offsets of all tasks can be read for the one where they can for the other
+  pub same-readable : (bytes offsets : List ℕ) → tasks-readable (lent bytes ts) n offsets ≡ true → tasks-readable (lent bytes us) n offsets ≡ true
+  same-readable bytes offsets e =
+      tasks-read-all (lent bytes us) n offsets
+      (λ i l. ap readable (sym (same-shown bytes (slot offsets i))) ∙ tasks-read-each (lent bytes ts) n offsets e i l)
 
-module _ (ts : List Task) (bytes x offsets : List ℕ) where
-  -- before the first task nothing is read
-  pub none-read : (instants : List ℕ) → ReadTo ts bytes x offsets instants 0
-  none-read instants = record { can-read = λ i l. absurd (omega arith); named = λ i l. absurd (omega arith) }
+-- the answer that it can be read
+told-readable : (k : Shown Inversion) → (Unreadable ≡ inversion-case k → ⊥) → readable k ≡ true
+told-readable unreadable can = absurd (can refl)
+told-readable no-record can = refl
+told-readable (shows r after) can = refl
 
-  -- an offset that cannot be read
-  pub one-unread : (i : ℕ) → i < length ts → Unreadable ≡ inversion-case (at-element ts bytes offsets i) →
-      tasks-readable (lent bytes ts) (length ts) offsets ≡ false
-  one-unread i l e =
-      one-unreadable (lent bytes ts) (length ts) offsets i l
-      (rw (← same-offset ts bytes offsets i) (inversion-unread (at-element ts bytes offsets i) e))
-
-  module _ (instants : List ℕ) (i : ℕ) (read : ReadTo ts bytes x offsets instants i) where
-    -- one task more, with another instant in its slot or the same
-    read-more : (more : List ℕ) → ((j : ℕ) → j < i → slot more j ≡ slot instants j) → readable (at-slot ts bytes offsets i) ≡ true →
-        slot more i ≡ named-instant (shown-delays (setting ts) (lent bytes ts) x offsets i) (release (task ts i) (slot x i)) →
-        ReadTo ts bytes x offsets more (i + 1)
-    read-more more kept can is = record {
-      can-read = λ j l. by-eq j i (λ e. rw e can) (λ e. read .can-read j (omega arith));
-      named = λ j l. by-eq j i (λ e. rw e is) (λ e. kept j (omega arith) ∙ read .named j (omega arith));
-    }
-
-    -- the slot still has no instant
-    module _ (empty : getD instants i 0 ≡ no-instant) where
-      -- where the offset shows no delay
-      read-none : readable (at-slot ts bytes offsets i) ≡ true → own-delay (at-slot ts bytes offsets i) i (slot x i) ≡ none →
-          ReadTo ts bytes x offsets instants (i + 1)
-      read-none can e = read-more instants (λ j l. refl) can (slot-getD instants i ∙ empty ∙ rw e)
-
-      -- the offset shows no record
-      pub read-no-record : NoRecord ≡ inversion-case (at-element ts bytes offsets i) → ReadTo ts bytes x offsets instants (i + 1)
-      read-no-record e =
-          let shown : at-slot ts bytes offsets i ≡ no-record =
-          sym (same-offset ts bytes offsets i) ∙ inversion-none (at-element ts bytes offsets i) e in
-          read-none (rw shown) (rw shown)
-
-      -- it shows a record that is not that of the task's next job
-      pub read-other : (r : Inversion) → Shows r ≡ inversion-case (at-element ts bytes offsets i) → (r .task ≡ i → r .job ≡ getD x i 0 → ⊥) →
-          ReadTo ts bytes x offsets instants (i + 1)
-      read-other r e other =
-          inversion-some (at-element ts bytes offsets i) r e
-          (λ after q.
-          let shown : at-slot ts bytes offsets i ≡ shows r after = sym (same-offset ts bytes offsets i) ∙ q in
-          let not-own : is-of r i (slot x i) ≡ false =
-          by-eq (r .task) i (λ u. rw (eq-eqb (r .task) i u) (ne-eqb (r .job) (slot x i) (λ v. other u (v ∙ slot-getD x i))))
-          (λ u. rw (ne-eqb (r .task) i u)) in
-          read-none (rw shown) (rw (shown, not-own, own-delay)))
-
-    -- it shows the record of the task's next job
-    pub read-own : (r : Inversion) → Shows r ≡ inversion-case (at-element ts bytes offsets i) → r .task ≡ i → r .job ≡ getD x i 0 →
-        i < length instants → (released : ℕ) → released ≡ release (task ts i) (slot x i) →
-        ReadTo ts bytes x offsets (set instants i (released + r .delay)) (i + 1)
-    read-own r e same-task same-job inside released is-released =
-        inversion-some (at-element ts bytes offsets i) r e
-        (λ after q.
-        let shown : at-slot ts bytes offsets i ≡ shows r after = sym (same-offset ts bytes offsets i) ∙ q in
-        let own : is-of r i (slot x i) ≡ true = rw (eq-eqb (r .task) i same-task, eq-eqb (r .job) (slot x i) (same-job ∙ sym (slot-getD x i))) in
-        let more : List ℕ = set instants i (released + r .delay) in
-        read-more more
-        (λ j l. slot-getD more j ∙ getD-set-other instants i j (released + r .delay) 0 (λ z. omega arith) ∙ sym (slot-getD instants j)) (rw shown)
-        (slot-getD more i ∙ getD-set-same instants i (released + r .delay) 0 inside ∙ rw (shown, own, is-released, own-delay)))
-
-  -- the instant that the record names comes before the end of the cycle
-  pub own-before : (h n : ℕ) (many slack releases : List ℕ) (fits : Fits ts h n many slack x releases) (i : ℕ) → i < n → (r : Inversion) →
-      Shows r ≡ inversion-case (at-element ts bytes offsets i) → r .task ≡ i → r .job ≡ getD x i 0 → getD releases i 0 + r .delay < h
-  own-before h n many slack releases fits i l r e same-task same-job =
-      inversion-some (at-element ts bytes offsets i) r e
-      (λ after q.
-      let before = recorded-before ts (hyperperiod ts) r (good-rules (fits .set .good)) (inversion-after ts bytes (getD offsets i 0) r after q .2) in
-      let its-job : r .job ≡ slot x i = same-job ∙ sym (slot-getD x i) in
-      let named : release (task ts i) (slot x i) + r .delay < hyperperiod ts = rw (same-task, its-job) at before in
-      omega (arith, is-hyperperiod fits, fits .releases-there i l, slot-getD releases i))
-
--- the first i of n tasks are read, for every set that fits, and the slots from i on have no instant yet
-pub record Reads (bytes : List ℕ) (n : ℕ) (many slack x releases offsets instants : List ℕ) (i : ℕ) : Type 0 where
+-- the offsets of the first i of n tasks can be read, for every set that fits
+pub record Reads (bytes : List ℕ) (n : ℕ) (many slack offsets : List ℕ) (i : ℕ) : Type 0 where
   pub some : i ≤ n
-  pub slots : length instants ≡ 16
-  pub empty : (j : ℕ) → i ≤ j → j < 16 → getD instants j 0 ≡ no-instant
-  pub read : (ts : List Task) (h : ℕ) → Fits ts h n many slack x releases → ReadTo ts bytes x offsets instants i
+  pub read : (ts : List Task) (h : ℕ) → SetFits ts h n many slack → (j : ℕ) → j < i →
+      readable (lent bytes ts .inversion-shown (slot offsets j)) ≡ true
 
-module _ {bytes : List ℕ} {n : ℕ} {many slack x releases offsets : List ℕ} where
+module _ {bytes : List ℕ} {n : ℕ} {many slack offsets : List ℕ} where
   -- none is read yet
-  pub reads-first : Reads bytes n many slack x releases offsets (replicate 16 no-instant) 0
-  reads-first = record {
-    some = omega arith;
-    slots = refl;
-    empty = λ j a b. getD-replicate 16 j no-instant 0 b;
-    read = λ ts h fits. none-read ts bytes x offsets (replicate 16 no-instant);
-  }
+  pub reads-first : Reads bytes n many slack offsets 0
+  reads-first = record { some = omega arith; read = λ ts h fits j l. absurd (omega arith) }
 
   -- all are read
-  pub reads-all : {instants : List ℕ} {i : ℕ} → Reads bytes n many slack x releases offsets instants i → n ≤ i → (ts : List Task) (h : ℕ) →
-      Fits ts h n many slack x releases → RecordsRead ts bytes x offsets true instants
-  reads-all {instants} {i} so-far past ts h fits =
-      let all : i ≡ length ts = omega (arith, so-far .some, fits .set .n-tasks) in
-      record { all-read = λ e. rw all at (so-far .read ts h fits); one-unread = λ e. differ e }
+  pub reads-all : {i : ℕ} → Reads bytes n many slack offsets i → n ≤ i → (ts : List Task) (h : ℕ) → SetFits ts h n many slack →
+      true ≡ tasks-readable (lent bytes ts) n offsets
+  reads-all so-far past ts h fits = sym (tasks-read-all (lent bytes ts) n offsets (λ j l. so-far .read ts h fits j (omega arith)))
 
   -- the next one's offset, with the answer of what it shows
-  module _ {instants : List ℕ} {i : ℕ} (so-far : Reads bytes n many slack x releases offsets instants i) (few : n ≤ 16) (l : i < n)
-      {answer : InversionShown} (shown : (ts : List Task) (h : ℕ) → SetFits ts h n many slack → answer ≡ inversion-case (at-element ts bytes offsets i)) where
+  module _ {i : ℕ} (so-far : Reads bytes n many slack offsets i) (l : i < n) {answer : InversionShown}
+      (shown : (ts : List Task) (h : ℕ) → SetFits ts h n many slack →
+      answer ≡ inversion-case (lent bytes ts .inversion-shown (getD offsets i 0))) where
+    -- what its slot's offset shows
+    at-slot : (ts : List Task) → lent bytes ts .inversion-shown (getD offsets i 0) ≡ lent bytes ts .inversion-shown (slot offsets i)
+    at-slot ts = ap (lent bytes ts .inversion-shown) (sym (slot-getD offsets i))
+
     -- it cannot be read
-    pub reads-unread : answer ≡ Unreadable → (ts : List Task) (h : ℕ) → Fits ts h n many slack x releases →
-        RecordsRead ts bytes x offsets false instants
-    reads-unread e ts h fits = record {
-      all-read = λ z. differ (sym z);
-      one-unread = λ z. one-unread ts bytes x offsets i (a-task fits l) (sym e ∙ shown ts h (fits .set));
+    pub reads-unread : answer ≡ Unreadable → (ts : List Task) (h : ℕ) → SetFits ts h n many slack →
+        false ≡ tasks-readable (lent bytes ts) n offsets
+    reads-unread e ts h fits =
+        sym
+        (one-unreadable (lent bytes ts) n offsets i l
+        (ap readable (sym (at-slot ts)) ∙ inversion-unread (lent bytes ts .inversion-shown (getD offsets i 0)) (sym e ∙ shown ts h fits)))
+
+    -- it can
+    pub reads-more : (answer ≡ Unreadable → ⊥) → Reads bytes n many slack offsets (i + 1)
+    reads-more can = record {
+      some = omega arith;
+      read = λ ts h fits j k. by-eq j i
+          (λ e. rw e (ap readable (sym (at-slot ts))
+          ∙ told-readable (lent bytes ts .inversion-shown (getD offsets i 0)) (λ q. can (shown ts h fits ∙ sym q))))
+          (λ e. so-far .read ts h fits j (omega arith));
     }
-
-    -- its slot has no instant yet
-    slot-empty : getD instants i 0 ≡ no-instant
-    slot-empty = so-far .empty i (omega arith) (omega arith)
-
-    -- its slot stays as it is
-    reads-kept : ((ts : List Task) (h : ℕ) → Fits ts h n many slack x releases → ReadTo ts bytes x offsets instants (i + 1)) →
-        Reads bytes n many slack x releases offsets instants (i + 1)
-    reads-kept read = record { some = omega arith; slots = so-far .slots; empty = λ j a b. so-far .empty j (omega arith) b; read = read }
-
-    -- it shows no record
-    pub reads-none : answer ≡ NoRecord → Reads bytes n many slack x releases offsets instants (i + 1)
-    reads-none e =
-        reads-kept (λ ts h fits. read-no-record ts bytes x offsets instants i (so-far .read ts h fits) slot-empty (sym e ∙ shown ts h (fits .set)))
-
-    module _ {r : Inversion} (shows-it : answer ≡ Shows r) where
-      -- it shows a record of another task or job
-      pub reads-other : (r .task ≡ i → r .job ≡ getD x i 0 → ⊥) → Reads bytes n many slack x releases offsets instants (i + 1)
-      reads-other other =
-          reads-kept
-          (λ ts h fits. read-other ts bytes x offsets instants i (so-far .read ts h fits) slot-empty r (sym shows-it ∙ shown ts h (fits .set)) other)
-
-      -- it shows the record of the task's next job
-      module _ (same-task : r .task ≡ i) (same-job : r .job ≡ getD x i 0) where
-        -- whose instant is a number of 32 bits
-        pub own-small : (ts : List Task) (h : ℕ) → Fits ts h n many slack x releases → getD releases i 0 + r .delay < no-instant
-        own-small ts h fits =
-            omega (
-              arith,
-              own-before ts bytes x offsets h n many slack releases fits i l r (sym shows-it ∙ shown ts h (fits .set)) same-task same-job,
-              fits .set .good .short,
-            )
-
-        -- that instant is put into its slot
-        pub reads-own : Reads bytes n many slack x releases offsets (set instants i (getD releases i 0 + r .delay)) (i + 1)
-        reads-own =
-            let v : ℕ = getD releases i 0 + r .delay in
-            record {
-              some = omega arith;
-              slots = length-set instants i v ∙ so-far .slots;
-              empty = λ j a b. getD-set-other instants i j v 0 (λ e. omega arith) ∙ so-far .empty j (omega arith) b;
-              read = λ ts h fits. read-own ts bytes x offsets instants i (so-far .read ts h fits) r (sym shows-it ∙ shown ts h (fits .set)) same-task
-                  same-job (omega (arith, so-far .slots)) (getD releases i 0) (sym (slot-getD releases i) ∙ fits .releases-there i l);
-            }

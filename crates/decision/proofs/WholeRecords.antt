@@ -3,11 +3,16 @@ use mathlib.Core.Path.{_≡_, refl, sym, _∙_, ap, ap₂}
 use mathlib.Core.Bool.{Bool, true, false}
 use mathlib.Core.List.{List}
 use mathlib.Core.Option.{Option, none, some}
-use Prim.Native.Nat.{ℕ, _+_, _≤_, _<_}
+use Prim.Native.Nat.{ℕ, _+_, _*_, min, _≤_, _<_}
+use native.Mathlib.Nat.{add-zero}
 use native.Mathlib.Omega.{arith}
 use lib.Dec.{leb, eqb}
 use lib.ListN.{length, getD, drop}
-use borrow.Author.Tests.{leb-true, le-leb, lt-leb, eqb-true, eq-eqb}
+use lib.Seq.{getD-drop}
+use borrow.Author.Tests.{leb-true, le-leb, eqb-true, eq-eqb, ne-eqb}
+use Rattle.fields.specs.Number.{Bytes}
+use Rattle.fields.proofs.Laws.{bytes-take, bytes-drop}
+use Rattle.fields.proofs.Places.{field-at-below}
 use Rattle.rules.specs.declared.Task.{Task}
 use Rattle.rules.specs.declared.Idle.{Idle}
 use Rattle.rules.specs.declared.Inversion.{Inversion}
@@ -17,14 +22,14 @@ use Rattle.rules.specs.Judging.{idle-in-range, inversion-in-range}
 use Rattle.rules.specs.Marks.{Mark, TS, TK, SL, ID, PV, EN, row, marks, size, body-length, mark-in, values}
 use Rattle.rules.specs.Image.{Record, record-of, to-idle, to-inversion}
 use Rattle.rules.specs.Framing.{allowed, if-allowed, mark-at}
-use Rattle.rules.specs.Offsets.{Shown, unreadable, no-record, shows, last-offset, whole-record, record-at, shown-if, idle-by, inversion-by, lent}
-use Rattle.rules.proofs.Cases.{by-bool, by-option, both-true, both-in, clash, differ}
+use Rattle.rules.specs.Offsets.{Shown, unreadable, no-record, shows, last-offset, whole-record, record-at, shown-if, idle-by, inversion-by, lent, is-of, own-delay, readable}
+use Rattle.rules.proofs.Cases.{by-bool, by-option, by-eq, both-true, both-in, clash, differ}
 use Rattle.rules.proofs.Marked.{mark-found, found-allowed}
 use Rattle.images.specs.Table.{stands-at}
 use Rattle.images.specs.Bodies.{part-of, idle-of, inversion-of}
 use Rattle.images.proofs.TableLaws.{stands-whole}
 use Rattle.images.proofs.BodyLaws.{idle-body-is, inversion-body-is}
-use Rattle.decision.specs.Shown.{whole-at, idle-case, inversion-case}
+use Rattle.decision.specs.Shown.{whole-at, idle-case, inversion-case, no-delay, delay-number}
 use Rattle.decision.specs.declared.IdleShown.the-variants as idle-answer
 use Rattle.decision.specs.declared.InversionShown.the-variants as inversion-answer
 
@@ -59,14 +64,19 @@ module _ (bytes : List ℕ) (o : ℕ) where
   unfolding whole-at
   whole-ends m e = leb-true (o + size m) last-offset (both-true (leb (o + size m) last-offset) _ e .0)
 
-  -- no record stands behind the image
-  pub past-image : (m : Mark) → length bytes < o → false ≡ whole-at bytes o m
-  past-image m h = by-bool (whole-at bytes o m) (λ e. absurd (omega (arith, whole-inside m e))) (λ e. sym e)
+  -- a record that ends behind the image or the last offset is not whole
+  pub past-readable : (m : Mark) → min (length bytes) last-offset < o + size m → false ≡ whole-at bytes o m
+  past-readable m h =
+      by-bool (whole-at bytes o m) (λ e. absurd (omega (arith, whole-inside m e, whole-ends m e))) (λ e. sym e)
 
-  -- a record that ends behind the last offset is not whole
-  pub behind-last : (m : Mark) → last-offset < o + size m → false ≡ whole-at bytes o m
-  unfolding whole-at
-  behind-last m h = rw (lt-leb (o + size m) last-offset h)
+  -- its first byte is its mark's
+  pub first-byte : (m : Mark) → whole-at bytes o m ≡ true → getD bytes o 0 ≡ row m .byte₁
+  unfolding whole-at stands-at
+  first-byte m e =
+      let a = both-true (leb (o + size m) last-offset) _ e in
+      let b = both-true (leb (size m) (length front)) _ (a .1) in
+      let c = both-true (eqb (getD front 0 0) (row m .byte₁)) _ (b .1) in
+      ap (λ (k : ℕ). getD bytes k 0) (sym (add-zero o)) ∙ sym (getD-drop o bytes 0 0) ∙ eqb-true (getD front 0 0) (row m .byte₁) (c .0)
 
   -- one that ends before is whole where it stands
   pub before-last : (m : Mark) → o + size m ≤ last-offset → stands-at bytes o m ≡ whole-at bytes o m
@@ -111,6 +121,22 @@ module _ (bytes : List ℕ) (o len : ℕ) (part : List ℕ) (is-part : part ≡ 
   pub inversion-body-read : whole-at bytes o PV ≡ true → len ≡ body-length PV → (r : Inversion) → r ≡ inversion-of part →
       r ≡ to-inversion (values PV (drop o bytes))
   inversion-body-read e is-length r read = read ∙ ap inversion-of is-part ∙ rw is-length (inversion-body-is bytes o (whole-inside bytes o PV e))
+
+  -- its numbers are in the ranges of their widths
+  pub inversion-small : Bytes bytes → (r : Inversion) → r ≡ inversion-of part → (r .task ≤ 65535) × (r .job ≤ 65535) × (r .delay ≤ no-delay)
+  inversion-small b r read =
+      let there : Bytes part = rw is-part (bytes-take len (drop (o + 2) bytes) (bytes-drop (o + 2) bytes b)) in
+      rw read (
+        omega (arith, field-at-below 1 part 0 there),
+        omega (arith, field-at-below 2 part 1 there),
+        omega (arith, field-at-below 4 part 3 there),
+      )
+
+-- the answer that a task's offset cannot be read
+pub inversion-unread : (k : Shown Inversion) → inversion-answer.Unreadable ≡ inversion-case k → readable k ≡ false
+inversion-unread unreadable e = refl
+inversion-unread no-record e = clash (cc)
+inversion-unread (shows r after) e = clash (cc)
 
 -- what the ID offset and a task's offset show
 module _ (ts : List Task) (bytes : List ℕ) (o : ℕ) where
@@ -223,3 +249,89 @@ module _ (ts : List Task) (bytes : List ℕ) (o : ℕ) where
           (cc, whole-ends bytes o PV (w refl), rw (← q) b))
           (λ b. let g : unreadable ≡ shows r after = rw b at e in clash (cc))
       by-mark EN v w e = clash (cc)
+
+  -- the record of a PV that stands there
+  abbrev pv-there : Inversion
+  pv-there = to-inversion (values PV (drop o bytes))
+
+  -- a task's offset that can be read shows a whole PV, or stands at a whole EN
+  by-readable : {A : Type 0} → readable inversion-there ≡ true → (whole-at bytes o PV ≡ true → inversion-there ≡ shows pv-there (o + size PV) → A) →
+      (whole-at bytes o EN ≡ true → inversion-there ≡ no-record → A) → A
+  by-readable can pv en =
+      by-bool (whole-at bytes o PV)
+      (λ w.
+      let within : Bool = inversion-in-range ts (hyperperiod ts) pv-there in
+      let there : inversion-there ≡ shown-if within (shows pv-there (o + size PV)) = rw (whole-read bytes o PV w) in
+      by-bool within (λ b. pv w (there ∙ rw b))
+      (λ b. let unread : inversion-there ≡ unreadable = there ∙ rw b in differ (sym can ∙ ap readable unread)))
+      (λ w. by-bool (whole-at bytes o EN) (λ v. en v (rw (whole-read bytes o EN v)))
+      (λ v. differ (sym can ∙ inversion-unread inversion-there (nothing-for-task w v))))
+
+  module _ (can : readable inversion-there ≡ true) where
+    -- it is inside the image
+    pub readable-inside : o < length bytes
+    readable-inside =
+        by-readable can (λ w e. omega (arith, whole-inside bytes o PV w)) (λ w e. omega (arith, whole-inside bytes o EN w))
+
+    -- with another first byte than PV's it shows no record
+    pub own-none : (i k : ℕ) → (getD bytes o 0 ≡ row PV .byte₁ → ⊥) → no-delay ≡ delay-number (own-delay inversion-there i k)
+    own-none i k other = by-readable can (λ w e. absurd (other (first-byte bytes o PV w))) (λ w e. rw e)
+
+    -- so it shows no delay that is one
+    pub none-shown : (i k delay : ℕ) → delay < no-delay → (getD bytes o 0 ≡ row PV .byte₁ → ⊥) →
+        false ≡ eqb (delay-number (own-delay inversion-there i k)) delay
+    none-shown i k delay small other =
+        sym (ne-eqb (delay-number (own-delay inversion-there i k)) delay (λ g. absurd (omega (arith, own-none i k other, g, small))))
+
+    -- with PV's first byte it shows a PV
+    module _ (same : getD bytes o 0 ≡ row PV .byte₁) where
+      -- which stands there whole
+      pub pv-stands : whole-at bytes o PV ≡ true
+      pv-stands = by-readable can (λ w e. w) (λ w e. absurd (omega (arith, first-byte bytes o EN w)))
+
+      -- and is what is read
+      pv-shown : inversion-there ≡ shows pv-there (o + size PV)
+      pv-shown = by-readable can (λ w e. e) (λ w e. absurd (omega (arith, first-byte bytes o EN w)))
+
+      module _ (r : Inversion) (read : r ≡ pv-there) (i k : ℕ) where
+        -- its delay, by whether it is the record of this job
+        delay-shown : (b : Bool) → is-of r i k ≡ b →
+            delay-number (own-delay inversion-there i k) ≡ delay-number (elim b [ true ↦ some (r .delay) | false ↦ none ])
+        delay-shown b e =
+            let shown : inversion-there ≡ shows r (o + size PV) = pv-shown ∙ ap (λ (q : Inversion). shows q (o + size PV)) (sym read) in
+            rw (shown, e, own-delay)
+
+        -- it is another task's
+        pub other-task : (r .task ≡ i → ⊥) → no-delay ≡ delay-number (own-delay inversion-there i k)
+        other-task other = sym (delay-shown false (rw (ne-eqb (r .task) i other)))
+
+        -- it is another job's
+        pub other-job : r .task ≡ i → (r .job ≡ k → ⊥) → no-delay ≡ delay-number (own-delay inversion-there i k)
+        other-job same-task other = sym (delay-shown false (rw (eq-eqb (r .task) i same-task, ne-eqb (r .job) k other)))
+
+        -- it is this job's
+        pub own-job : r .task ≡ i → r .job ≡ k → r .delay ≡ delay-number (own-delay inversion-there i k)
+        own-job same-task same-job = sym (delay-shown true (rw (eq-eqb (r .task) i same-task, eq-eqb (r .job) k same-job)))
+
+        -- the delay that is told
+        abbrev told : ℕ
+        told = delay-number (own-delay inversion-there i k)
+
+        -- its packed number is that of the job and a delay where it is this job's with this delay
+        pub packed-shown : (r .task ≤ 65535) × (r .job ≤ 65535) × (r .delay ≤ no-delay) → (delay : ℕ) → i ≤ 65535 → k ≤ 65535 → delay < no-delay →
+            {one two : ℕ} → one ≡ r .task * 281474976710656 + r .job * 4294967296 + r .delay →
+            two ≡ i * 281474976710656 + k * 4294967296 + delay → eqb one two ≡ eqb told delay
+        packed-shown small delay li lk ld {one} {two} is-one is-two =
+            by-eq (r .task) i
+            (λ same-task.
+            by-eq (r .job) k
+            (λ same-job.
+            let own : r .delay ≡ told = own-job same-task same-job in
+            by-eq (r .delay) delay (λ e. eq-eqb one two (omega arith) ∙ sym (eq-eqb told delay (sym own ∙ e)))
+            (λ e. ne-eqb one two (λ g. e (omega arith)) ∙ sym (ne-eqb told delay (λ g. e (own ∙ g)))))
+            (λ other. apart (λ g. other (omega arith)) (other-job same-task other)))
+            (λ other. apart (λ g. other (omega arith)) (other-task other))
+          where
+            -- another number, where no delay is told
+            apart : (one ≡ two → ⊥) → no-delay ≡ told → eqb one two ≡ eqb told delay
+            apart differs none-told = ne-eqb one two differs ∙ sym (ne-eqb told delay (λ g. absurd (omega (arith, none-told, g, ld))))

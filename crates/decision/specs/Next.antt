@@ -2,22 +2,24 @@
 use mathlib.Core.Path.{_≡_}
 use mathlib.Core.Bool.{Bool, true, false}
 use mathlib.Core.List.{List}
-use mathlib.Core.Option.{none}
-use Prim.Native.Nat.{ℕ, _+_, _≤_}
-use lib.Dec.{ltb}
-use lib.ListN.{length}
+use mathlib.Core.Option.{Option, none, some}
+use Prim.Native.Nat.{ℕ, _+_, _≤_, _<_}
+use lib.Count.{trailingZeros}
 use Rattle.rules.specs.declared.Task.{Task}
 use Rattle.rules.specs.Tasks.{hyperperiod}
 use Rattle.rules.specs.Timetable.{pick}
-use Rattle.rules.specs.Setting.{instant}
+use Rattle.rules.specs.Setting.{instant, lowest}
 use Rattle.rules.specs.Priority.{slot, by-priority, setting}
+use Rattle.rules.specs.Decision.{recorded}
 use Rattle.rules.specs.Irregularities.{runs}
 use Rattle.rules.specs.Marks.{PV, size}
-use Rattle.rules.specs.Offsets.{NextStart, next-is, stuck, past-own, readable, idle-now, lent, next-start}
+use Rattle.rules.specs.Offsets.{NextStart, next-is, stuck, past-own, readable, tasks-readable, shown-delays, idle-now, lent, next-start}
 use Rattle.decision.specs.declared.NextStart.{NextStart as Answer}
 use Rattle.decision.specs.declared.NextStart.the-variants.{Starts, Stuck}
 use Rattle.decision.specs.Fits.{Fits}
-use Rattle.decision.specs.Shown.{no-instant, ReadTo}
+use Rattle.decision.specs.declared.Chosen.{Chosen}
+use Rattle.decision.specs.declared.Idled.{Idled}
+use Rattle.decision.specs.Waiting.{mask-of, come-by, least-of}
 
 -- a test turned round
 abbrev pub not : Bool → Bool
@@ -44,16 +46,59 @@ next-case ts bytes x offsets (stuck number) = Stuck number
 abbrev pub next-of : List Task → List ℕ → List ℕ → ℕ → List ℕ → ℕ → Answer
 next-of ts bytes x f offsets o = next-case ts bytes x offsets (next-start (setting ts) (lent bytes ts) x f offsets o)
 
--- a task's own offset behind a start: past its record, where its offset shows it
-abbrev pub own-past : ℕ → ℕ → ℕ
-own-past instant offset = pick (ltb instant no-instant) (offset + size PV) offset
+-- an offset, or the one past the PV record there
+abbrev pub past-if : Bool → ℕ → ℕ
+past-if own offset = pick own (offset + size PV) offset
+
+-- the delay that each task's offset shows for its next job
+abbrev pub delays-in : List Task → List ℕ → List ℕ → List ℕ → ℕ → Option ℕ
+delays-in ts bytes x offsets = shown-delays (setting ts) (lent bytes ts) x offsets
+
+-- is there a delay
+abbrev pub is-delay : Option ℕ → Bool
+is-delay none = false
+is-delay (some delay) = true
+
+-- rules (2) and (3): the lowest task with a record for this instant, else the lowest of the mask, 16 for none
+abbrev pub task-or : ℕ → Option ℕ → ℕ
+task-or other none = other
+task-or other (some i) = i
+
+abbrev pub choice-of : List Task → ℕ → List ℕ → List ℕ → List ℕ → ℕ → ℕ → ℕ
+choice-of ts n bytes x offsets t mask = task-or (trailingZeros 16 mask) (lowest n (recorded (setting ts) (delays-in ts bytes x offsets) x t))
+
+-- a decision before the end of the cycle, whose task is looked for: what has started, offsets that can be read, and the mask of the waiting tasks
+pub record Choosing (ts : List Task) (h n : ℕ) (bytes x releases offsets : List ℕ) (t mask : ℕ) : Type 0 where
+  pub many : List ℕ
+  pub slack : List ℕ
+  pub fits : Fits ts h n many slack x releases
+  pub tasks-read : tasks-readable (lent bytes ts) n offsets ≡ true
+  pub before-end : t < h
+  pub is-mask : mask ≡ mask-of n (come-by releases t)
+
+-- that task, and whether its offset shows its next job's record
+pub record IsChosen (ts : List Task) (n : ℕ) (bytes x offsets : List ℕ) (t mask : ℕ) (c : Chosen) : Type 0 where
+  pub is-task : c .task ≡ choice-of ts n bytes x offsets t mask
+  pub is-own : c .task < n → c .own ≡ is-delay (delays-in ts bytes x offsets (c .task))
 
 -- a decision at an instant, with all offsets read, that uses no idle record
-pub record StartsAt (ts : List Task) (bytes x : List ℕ) (f h n : ℕ) (slack releases instants offsets : List ℕ) (o t : ℕ) : Type 0 where
+pub record StartsAt (ts : List Task) (bytes x : List ℕ) (f h n : ℕ) (slack releases offsets : List ℕ) (o t : ℕ) : Type 0 where
   pub many : List ℕ
   pub fits : Fits ts h n many slack x releases
-  pub tasks-read : ReadTo ts bytes x offsets instants (length ts)
+  pub tasks-read : tasks-readable (lent bytes ts) n offsets ≡ true
   pub idle-read : readable (lent bytes ts .idle-shown o) ≡ true
   pub no-idle : idle-now (lent bytes ts .idle-shown o) t ≡ none
   pub is-instant : instant (setting ts) x f ≡ t
   pub by-end : t ≤ h
+
+-- decisions on the way to a start: what has started, offsets that can be read, and the least release
+pub record Idling (ts : List Task) (bytes : List ℕ) (h n : ℕ) (many slack x releases offsets : List ℕ) (first : ℕ) : Type 0 where
+  pub fits : Fits ts h n many slack x releases
+  pub tasks-read : tasks-readable (lent bytes ts) n offsets ≡ true
+  pub is-first : first ≡ least-of n h releases
+
+-- where idling ends: the ID offset there cannot be read, or the start is decided there and uses no idle record
+pub record IdledTo (ts : List Task) (bytes : List ℕ) (h n : ℕ) (slack x releases offsets : List ℕ) (free idle : ℕ) (d : Idled) : Type 0 where
+  pub unread : d .readable ≡ false → Stuck 25 ≡ next-of ts bytes x free offsets idle
+  pub read : d .readable ≡ true → (f : ℕ) × StartsAt ts bytes x f h n slack releases offsets (d .idle) (d .start)
+      × (next-of ts bytes x f offsets (d .idle) ≡ next-of ts bytes x free offsets idle)

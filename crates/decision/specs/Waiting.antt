@@ -3,13 +3,10 @@ use mathlib.Core.Bool.{Bool, true, false}
 use mathlib.Core.List.{List}
 use mathlib.Core.Option.{Option, none, some}
 use Prim.Native.Nat.{ℕ, zero, suc, _+_, _*_, _-_, _^_, min}
-use lib.Dec.{ltb, leb, eqb}
+use lib.Dec.{leb}
 use lib.Bits.{bitOr, bitAnd}
-use lib.Count.{trailingZeros}
 use Rattle.fields.specs.Body.{head₀, tail₀}
 use Rattle.rules.specs.Tasks.{limits}
-use Rattle.rules.specs.Timetable.{pick}
-use Rattle.rules.specs.Setting.{lowest}
 use Rattle.rules.specs.Priority.{slot}
 
 -- the least of the numbers in the first n slots and a bound
@@ -43,19 +40,7 @@ clear-bit mask i = bitAnd mask (65535 - 2 ^ i)
 abbrev pub come-by : List ℕ → ℕ → ℕ → Bool
 come-by releases t i = leb (slot releases i) t
 
--- is the instant in a slot this one
-abbrev pub named-now : List ℕ → ℕ → ℕ → Bool
-named-now instants t i = eqb (slot instants i) t
-
 -- a task by its number, 16 for none
 abbrev pub task-number : Option ℕ → ℕ
 task-number none = limits .tasks
 task-number (some i) = i
-
--- the lowest of n tasks whose slot has this instant
-abbrev pub first-at : ℕ → ℕ → List ℕ → ℕ
-first-at n t instants = task-number (lowest n (named-now instants t))
-
--- rules (2) and (3): the task with a record for this instant, else the lowest of the mask
-abbrev pub choice-of : ℕ → ℕ → ℕ
-choice-of recorded mask = pick (ltb recorded (limits .tasks)) recorded (trailingZeros 16 mask)

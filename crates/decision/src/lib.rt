@@ -4,38 +4,48 @@ use images::EN;
 use images::ID;
 use images::PV;
 use images::body_of;
+use images::row_of;
 use records::idle_keeps;
 use records::inversion_keeps;
 use rules::Idle;
 use rules::Inversion;
 ghost use mathlib.Core.Path.{_≡_};
 ghost use mathlib.Core.List.{List};
-ghost use Prim.Native.Nat.{ℕ, _+_, max, _≤_, _<_};
+ghost use mathlib.Core.Bool.{true};
+ghost use Prim.Native.Nat.{ℕ, _+_, _*_, max, min, _≤_, _<_};
+ghost use lib.Dec.{eqb};
 ghost use lib.Count.{trailingZeros};
-ghost use lib.ListN.{replicate};
+ghost use lib.ListN.{length};
 ghost use Rattle.rules.specs.declared.Task.{Task};
 ghost use Rattle.rules.specs.Marks as book-marks;
-ghost use Rattle.rules.specs.Offsets.{last-offset, lent, next-start};
+ghost use Rattle.rules.specs.Offsets.{last-offset, lent, readable, tasks-readable, own-delay, next-start};
 ghost use Rattle.rules.specs.Priority.{setting};
 ghost use Rattle.images.specs.Table.{mark-of};
 ghost use Rattle.records.specs.Fits.{SetFits};
 ghost use Rattle.decision.specs.Fits.{Fits};
-ghost use Rattle.decision.specs.Shown.{whole-at, idle-case, inversion-case, no-instant, RecordsRead};
-ghost use Rattle.decision.specs.Waiting.{mask-of, come-by, set-bit, clear-bit, least-of, first-at, choice-of};
-ghost use Rattle.decision.specs.Next.{next-case, next-of, own-past, StartsAt};
+ghost use Rattle.decision.specs.Shown.{whole-at, idle-case, inversion-case, no-delay, delay-number};
+ghost use Rattle.decision.specs.Waiting.{mask-of, come-by, set-bit, clear-bit, least-of};
+ghost use Rattle.decision.specs.Next.{next-case, next-of, past-if, Choosing, IsChosen, StartsAt, Idling, IdledTo};
 
-// The largest instant and the largest offset of 32 bits: no record's instant, and the byte at or before which every record ends.
+// The largest number of 32 bits: no record's delay, and the byte at or before which every record ends.
 const LAST: u32 = 4294967295;
+
+// The byte at or before which a record must end: the end of the image, or the largest offset.
+fn readable_to(image: &[u8]) -> usize
+    ensures { λ r. ⌜ r ≡ min (length (now (image .entry))) last-offset ⌝ }
+{
+    if image.len() < (LAST as usize) {
+        return image.len();
+    }
+    LAST as usize
+}
 
 // Does a whole record with a mark stand at an offset?
 fn whole(image: &[u8], o: u32, k: usize) -> bool
     ensures { λ r. ⌜ r ≡ whole-at (now (image .entry)) o (mark-of k) ⌝ }
 {
     let at = o as usize;
-    if image.len() < at {
-        return false;
-    }
-    if (LAST as usize) < at + (body_of(k) + 2) {
+    if readable_to(image) < at + (body_of(k) + 2) {
         return false;
     }
     images::stands(image, at, k)
@@ -115,22 +125,24 @@ fn inversion_shown(
     InversionShown::Unreadable
 }
 
-// All tasks' offsets, read anew: whether each can be read, and in the array the instant that the record of each task's next job names, where the task's
-// offset shows that record. They are the same at every decision on the way to one start: idling moves the ID offset alone.
-fn read_records(
+// Can all tasks' offsets be read? They are the same at every decision on the way to one start: idling moves the ID offset alone. Where the image's
+// records were judged and the offsets stand among them, they can be.
+fn tasks_readable(
     image: &[u8],
+    judged: bool,
     n: usize,
     jobs: &[u32; 16],
     slack: &[u32; 16],
-    next: &[u32; 16],
-    release: &[u32; 16],
     offsets: &[u32; 16],
-    instants: &mut [u32; 16],
 ) -> bool
-    requires { ⌜ ((ts : List Task) × (h : ℕ) × Fits ts h n (now jobs) (now slack) (now next) (now release)) × (now instants ≡ replicate 16 no-instant) ⌝ }
-    ensures { λ r. ⌜ ((ts : List Task) (h : ℕ) → Fits ts h n (now (jobs .entry)) (now (slack .entry)) (now (next .entry)) (now (release .entry)) →
-        RecordsRead ts (now (image .entry)) (now (next .entry)) (now (offsets .entry)) r (now (instants .exit))) ⌝ }
+    requires { ⌜ (n ≤ 16) × (judged ≡ true → ((ts : List Task) × (h : ℕ) × SetFits ts h n (now jobs) (now slack)
+        × (tasks-readable (lent (now image) ts) n (now offsets) ≡ true))) ⌝ }
+    ensures { λ r. ⌜ ((ts : List Task) (h : ℕ) → SetFits ts h n (now (jobs .entry)) (now (slack .entry)) →
+        r ≡ tasks-readable (lent (now (image .entry)) ts) n (now (offsets .entry))) ⌝ }
 {
+    if judged {
+        return true;
+    }
     let mut i: usize = 0;
     'tasks: loop {
         if n <= i {
@@ -141,13 +153,7 @@ fn read_records(
                 break 'tasks false;
             }
             InversionShown::NoRecord => {}
-            InversionShown::Shows(r) => {
-                if r.task as usize == i {
-                    if r.job == next[i] {
-                        instants[i] = release[i] + r.delay;
-                    }
-                }
-            }
+            InversionShown::Shows(_) => {}
         }
         i += 1;
     }
@@ -185,6 +191,14 @@ fn without_started(mask: u16, i: u32) -> u16
     mask & !(1u16 << i)
 }
 
+// The lowest bit that is set is cleared.
+fn without_lowest(mask: u16) -> u16
+    requires { ⌜ 1 ≤ mask ⌝ }
+    ensures { λ r. ⌜ r ≡ clear-bit mask (trailingZeros 16 mask) ⌝ }
+{
+    mask & (mask - 1)
+}
+
 // The lowest bit that is set, 16 where none is.
 fn lowest(mask: u16) -> u32
     ensures { λ r. ⌜ r ≡ trailingZeros 16 mask ⌝ }
@@ -198,29 +212,111 @@ fn waiting(n: usize, release: &[u32; 16], t: u32) -> u16
     ensures { λ r. ⌜ r ≡ mask-of n (come-by (now (release .entry)) t) ⌝ }
 {
     let mut mask: u16 = 0;
-    let mut i: usize = 0;
-    while i < n {
+    let mut i = n;
+    while 0 < i {
+        i -= 1;
+        mask = mask * 2;
         if release[i] <= t {
-            mask = with_released(mask, i as u32);
+            mask = with_released(mask, 0);
         }
-        i += 1;
     }
     mask
 }
 
-// The lowest of n tasks whose next job's record names an instant, 16 where there is none.
-fn lowest_recorded(n: usize, instants: &[u32; 16], t: u32) -> u32
-    requires { ⌜ n ≤ 16 ⌝ }
-    ensures { λ r. ⌜ r ≡ first-at n t (now (instants .entry)) ⌝ }
+// The delay that an offset which can be read shows for a job of a task; LAST where it shows no record of that job. There stands a PV or EN, and their
+// first bytes differ.
+fn own_delay(image: &[u8], offset: u32, task: u32, job: u32) -> u32
+    requires { ⌜ ((ts : List Task) × (readable (lent (now image) ts .inversion-shown offset) ≡ true)) ⌝ }
+    ensures { λ r. ⌜ ((ts : List Task) → readable (lent (now (image .entry)) ts .inversion-shown offset) ≡ true →
+        r ≡ delay-number (own-delay (lent (now (image .entry)) ts .inversion-shown offset) task job)) ⌝ }
 {
-    let mut i: usize = 0;
-    while i < n {
-        if instants[i] == t {
-            return i as u32;
-        }
-        i += 1;
+    let at = offset as usize;
+    if image[at] != row_of(PV).first {
+        return LAST;
     }
-    16
+    let r = images::inversion_body(images::part(image, at + 2, body_of(PV)));
+    if r.task != task {
+        return LAST;
+    }
+    if r.job != job {
+        return LAST;
+    }
+    r.delay
+}
+
+// A task, a job and a delay as one number, so that one comparison tells all three.
+fn packed(task: u32, job: u32, delay: u32) -> u64
+    requires { ⌜ (task ≤ 65535) × (job ≤ 65535) ⌝ }
+    ensures { λ r. ⌜ r ≡ task * 281474976710656 + job * 4294967296 + delay ⌝ }
+{
+    (task as u64) * 281474976710656 + (job as u64) * 4294967296 + (delay as u64)
+}
+
+// Does an offset which can be read show the record of a job of a task, with this delay?
+fn shows_delay(image: &[u8], offset: u32, task: u32, job: u32, delay: u32) -> bool
+    requires { ⌜ ((ts : List Task) × (readable (lent (now image) ts .inversion-shown offset) ≡ true))
+        × (task ≤ 65535) × (job ≤ 65535) × (delay < no-delay) ⌝ }
+    ensures { λ r. ⌜ ((ts : List Task) → readable (lent (now (image .entry)) ts .inversion-shown offset) ≡ true →
+        r ≡ eqb (delay-number (own-delay (lent (now (image .entry)) ts .inversion-shown offset) task job)) delay) ⌝ }
+{
+    let at = offset as usize;
+    if image[at] != row_of(PV).first {
+        return false;
+    }
+    let r = images::inversion_body(images::part(image, at + 2, body_of(PV)));
+    packed(r.task, r.job, r.delay) == packed(task, job, delay)
+}
+
+// A task, 16 for none, and whether its offset shows its next job's record.
+pub struct Chosen {
+    pub task: u32,
+    pub own: bool,
+}
+
+// Rules (2) and (3): the lowest task with a record for this instant, else the lowest waiting one. A task with such a record waits.
+fn chosen_task(
+    image: &[u8],
+    mask: u16,
+    next: &[u32; 16],
+    release: &[u32; 16],
+    offsets: &[u32; 16],
+    t: u32,
+) -> Chosen
+    requires { ⌜ ((ts : List Task) × (h n : ℕ) × Choosing ts h n (now image) (now next) (now release) (now offsets) t mask) ⌝ }
+    ensures { λ r. ⌜ ((ts : List Task) (h n : ℕ) →
+        Choosing ts h n (now (image .entry)) (now (next .entry)) (now (release .entry)) (now (offsets .entry)) t mask →
+        IsChosen ts n (now (image .entry)) (now (next .entry)) (now (offsets .entry)) t mask r) ⌝ }
+{
+    if mask == 0 {
+        return Chosen {
+            task: 16,
+            own: false,
+        };
+    }
+    let first = lowest(mask);
+    let i = first as usize;
+    let delay = own_delay(image, offsets[i], first, next[i]);
+    if delay == t - release[i] {
+        return Chosen {
+            task: first,
+            own: true,
+        };
+    }
+    let mut left = without_lowest(mask);
+    'tasks: loop {
+        if left == 0 {
+            break 'tasks Chosen {
+                task: first,
+                own: delay < LAST,
+            };
+        }
+        let task = lowest(left);
+        let j = task as usize;
+        if shows_delay(image, offsets[j], task, next[j], t - release[j]) {
+            break 'tasks Chosen { task, own: true };
+        }
+        left = without_lowest(left);
+    }
 }
 
 // A start, with what it used: the ID offset and the task's own offset behind it, and whether a lower-numbered task was waiting.
@@ -238,22 +334,12 @@ pub enum NextStart {
     Stuck(u32),
 }
 
-// Rules (2) and (3): a task with a record for this instant, else the lowest waiting one.
-fn choice(recorded: u32, mask: u16) -> u32
-    ensures { λ r. ⌜ r ≡ choice-of recorded mask ⌝ }
-{
-    if recorded < 16 {
-        return recorded;
-    }
-    lowest(mask)
-}
-
 // The task's own offset behind a start: past its record, where its offset shows it.
-fn own_offset(instant: u32, offset: u32) -> u32
-    requires { ⌜ (instant < no-instant → offset + book-marks.size book-marks.PV ≤ last-offset) ⌝ }
-    ensures { λ r. ⌜ r ≡ own-past instant offset ⌝ }
+fn own_offset(own: bool, offset: u32) -> u32
+    requires { ⌜ (own ≡ true → offset + book-marks.size book-marks.PV ≤ last-offset) ⌝ }
+    ensures { λ r. ⌜ r ≡ past-if own offset ⌝ }
 {
-    if instant < LAST {
+    if own {
         return offset + ((body_of(PV) + 2) as u32);
     }
     offset
@@ -261,26 +347,27 @@ fn own_offset(instant: u32, offset: u32) -> u32
 
 // What starts at an instant, where no idle record is used; a start that would end late is refused.
 fn start_at(
+    image: &[u8],
     n: usize,
     h: u32,
     slack: &[u32; 16],
+    next: &[u32; 16],
     release: &[u32; 16],
-    instants: &[u32; 16],
     offsets: &[u32; 16],
     idle: u32,
     t: u32,
 ) -> NextStart
-    requires { ⌜ ((ts : List Task) × (bytes : List ℕ) × (x : List ℕ) × (f : ℕ) ×
-        StartsAt ts bytes x f h n (now slack) (now release) (now instants) (now offsets) idle t) ⌝ }
-    ensures { λ r. ⌜ ((ts : List Task) (bytes x : List ℕ) (f : ℕ) →
-        StartsAt ts bytes x f h n (now (slack .entry)) (now (release .entry)) (now (instants .entry)) (now (offsets .entry)) idle t →
-        r ≡ next-of ts bytes x f (now (offsets .entry)) idle) ⌝ }
+    requires { ⌜ ((ts : List Task) × (f : ℕ) × StartsAt ts (now image) (now next) f h n (now slack) (now release) (now offsets) idle t) ⌝ }
+    ensures { λ r. ⌜ ((ts : List Task) (f : ℕ) →
+        StartsAt ts (now (image .entry)) (now (next .entry)) f h n (now (slack .entry)) (now (release .entry)) (now (offsets .entry)) idle t →
+        r ≡ next-of ts (now (image .entry)) (now (next .entry)) f (now (offsets .entry)) idle) ⌝ }
 {
     if h <= t {
         return NextStart::Stuck(18);
     }
     let mask = waiting(n, release, t);
-    let task = choice(lowest_recorded(n, instants, t), mask);
+    let c = chosen_task(image, mask, next, release, offsets, t);
+    let task = c.task;
     let i = task as usize;
     if n <= i {
         return NextStart::Stuck(18);
@@ -289,7 +376,7 @@ fn start_at(
         return NextStart::Stuck(18);
     }
     let inverts = lowest(without_started(mask, task)) < task;
-    let inversion = own_offset(instants[i], offsets[i]);
+    let inversion = own_offset(c.own, offsets[i]);
     NextStart::Starts(Found {
         task,
         start: t,
@@ -309,10 +396,69 @@ fn later(a: u32, b: u32) -> u32
     a
 }
 
+// Where idling ends: whether the ID offset could be read all the way; the instant at which no idle record is used, and the ID offset there.
+pub struct Idled {
+    pub readable: bool,
+    pub start: u32,
+    pub idle: u32,
+}
+
+// Past the idle records that are used, one at each decision, from a free instant, the least release and an ID offset.
+fn past_idles(
+    image: &[u8],
+    n: usize,
+    h: u32,
+    jobs: &[u32; 16],
+    slack: &[u32; 16],
+    first: u32,
+    free: u32,
+    idle: u32,
+) -> Idled
+    requires { ⌜ ((ts : List Task) × (x releases offsets : List ℕ) × Idling ts (now image) h n (now jobs) (now slack) x releases offsets first) × (free ≤ h) ⌝ }
+    ensures { λ r. ⌜ ((ts : List Task) (x releases offsets : List ℕ) →
+        Idling ts (now (image .entry)) h n (now (jobs .entry)) (now (slack .entry)) x releases offsets first →
+        IdledTo ts (now (image .entry)) h n (now (slack .entry)) x releases offsets free idle r) ⌝ }
+{
+    let mut from = free;
+    let mut o = idle;
+    'decisions: loop {
+        let t = later(from, first);
+        match idle_shown(image, n, h, jobs, slack, o) {
+            IdleShown::Unreadable => {
+                break 'decisions Idled {
+                    readable: false,
+                    start: t,
+                    idle: o,
+                };
+            }
+            IdleShown::NoRecord => {
+                break 'decisions Idled {
+                    readable: true,
+                    start: t,
+                    idle: o,
+                };
+            }
+            IdleShown::Shows(r) => {
+                if r.start != t {
+                    break 'decisions Idled {
+                        readable: true,
+                        start: t,
+                        idle: o,
+                    };
+                }
+                from = t + r.length;
+                o += (body_of(ID) + 2) as u32;
+            }
+        }
+    }
+}
+
 // The next start from what has started, the instant from which the processor is free, the ID offset and the tasks' offsets. Of the set it takes n, H
-// and, for each task, its jobs a cycle, D − C, the number of its next job and that job's release, which is H or later where no job is left.
+// and, for each task, its jobs a cycle, D − C, the number of its next job and that job's release, which is H or later where no job is left. Where the
+// image's records were judged and the tasks' offsets stand among them, these are not tested again.
 pub fn next_start(
     image: &[u8],
+    judged: bool,
     n: usize,
     h: u32,
     jobs: &[u32; 16],
@@ -323,34 +469,18 @@ pub fn next_start(
     idle: u32,
     offsets: &[u32; 16],
 ) -> NextStart
-    requires { ⌜ ((ts : List Task) × Fits ts h n (now jobs) (now slack) (now next) (now release)) × (free ≤ h) ⌝ }
+    requires { ⌜ ((ts : List Task) × Fits ts h n (now jobs) (now slack) (now next) (now release)
+        × (judged ≡ true → tasks-readable (lent (now image) ts) n (now offsets) ≡ true)) × (free ≤ h) ⌝ }
     ensures { λ r. ⌜ ((ts : List Task) → Fits ts h n (now (jobs .entry)) (now (slack .entry)) (now (next .entry)) (now (release .entry)) →
         r ≡ next-case ts (now (image .entry)) (now (next .entry)) (now (offsets .entry))
         (next-start (setting ts) (lent (now (image .entry)) ts) (now (next .entry)) free (now (offsets .entry)) idle)) ⌝ }
 {
-    let mut instants = [LAST; 16];
-    if !read_records(image, n, jobs, slack, next, release, offsets, &mut instants) {
+    if !tasks_readable(image, judged, n, jobs, slack, offsets) {
         return NextStart::Stuck(25);
     }
-    let first = least(n, h, release);
-    let mut from = free;
-    let mut o = idle;
-    'decisions: loop {
-        let t = later(from, first);
-        match idle_shown(image, n, h, jobs, slack, o) {
-            IdleShown::Unreadable => {
-                break 'decisions NextStart::Stuck(25);
-            }
-            IdleShown::NoRecord => {
-                break 'decisions start_at(n, h, slack, release, &instants, offsets, o, t);
-            }
-            IdleShown::Shows(r) => {
-                if r.start != t {
-                    break 'decisions start_at(n, h, slack, release, &instants, offsets, o, t);
-                }
-                from = t + r.length;
-                o += (body_of(ID) + 2) as u32;
-            }
-        }
+    let d = past_idles(image, n, h, jobs, slack, least(n, h, release), free, idle);
+    if !d.readable {
+        return NextStart::Stuck(25);
     }
+    start_at(image, n, h, slack, next, release, offsets, d.idle, d.start)
 }

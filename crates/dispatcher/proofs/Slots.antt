@@ -1,4 +1,5 @@
--- The slots of arrays, one by one: numbers that are at most others, and the first slots of one array before those of another. Assumes nothing.
+-- The slots of arrays, one by one: the first slots of one array before those of another, and a slot that is counted up. The test of the running job.
+-- Assumes nothing.
 use mathlib.Core.Path.{_≡_, refl, sym, _∙_, ap}
 use mathlib.Core.Bool.{true, false}
 use mathlib.Core.List.{List, [], _∷_}
@@ -11,37 +12,11 @@ use borrow.Author.Tests.{le-leb, lt-leb, eq-eqb, ne-eqb}
 use Rattle.fields.specs.Body.{head₀, tail₀}
 use Rattle.rules.specs.declared.Task.{Task}
 use Rattle.rules.specs.declared.Running.{Running}
-use Rattle.rules.specs.Tasks.{task, jobs, release, due}
-use Rattle.rules.specs.Priority.{slot}
-use Rattle.rules.specs.Dispatcher.{counts-possible, front}
-use Rattle.rules.proofs.Cases.{both-in, by-eq}
-use Rattle.dispatcher.specs.Tested.{each-at-most, last-and-in-time}
-use Rattle.dispatcher.proofs.Zeros.{fails-first, fails-later}
-
--- numbers that are each at most the other pass the test
-pub none-above : (n : ℕ) (x y : List ℕ) → ((i : ℕ) → i < n → slot x i ≤ slot y i) → each-at-most n x y ≡ true
-unfolding each-at-most
-none-above zero x y all = refl
-none-above (suc n) x y all =
-    both-in (leb (head₀ x) (head₀ y)) (each-at-most n (tail₀ x) (tail₀ y)) (le-leb _ _ (all 0 (omega arith)))
-    (none-above n (tail₀ x) (tail₀ y) (λ i l. all (suc i) (omega arith)))
-
--- with one above the other they do not
-pub one-above : (n : ℕ) (x y : List ℕ) (i : ℕ) → i < n → slot y i < slot x i → each-at-most n x y ≡ false
-unfolding each-at-most
-one-above zero x y i l above = absurd (omega arith)
-one-above (suc n) x y zero l above = fails-first (leb (head₀ x) (head₀ y)) _ (lt-leb (head₀ x) (head₀ y) above)
-one-above (suc n) x y (suc i) l above =
-    fails-later (leb (head₀ x) (head₀ y)) (each-at-most n (tail₀ x) (tail₀ y)) (one-above n (tail₀ x) (tail₀ y) i (omega arith) above)
-
--- next job numbers are possible where each is at most its task's jobs
-pub counts-by-slots : (h : ℕ) (ts : List Task) (many x : List ℕ) → ((i : ℕ) → i < length ts → slot many i ≡ jobs h (task ts i)) →
-    each-at-most (length ts) x many ≡ counts-possible h ts x
-unfolding each-at-most
-counts-by-slots h [] many x there = refl
-counts-by-slots h (t ∷ ts) many x there =
-    let here : head₀ many ≡ jobs h t = there 0 (omega arith) in
-    rw (here, counts-by-slots h ts (tail₀ many) (tail₀ x) (λ i l. there (suc i) (omega arith)))
+use Rattle.rules.specs.Tasks.{release, due}
+use Rattle.rules.specs.Priority.{slot, start-job}
+use Rattle.rules.specs.Offsets.{put-slot}
+use Rattle.rules.specs.Dispatcher.{front}
+use Rattle.dispatcher.specs.Tested.{last-and-in-time}
 
 -- one slot more of the array in front
 pub front-more : (i : ℕ) (a b : List ℕ) → i < length b → set (front i a b) i (getD a i 0) ≡ front (suc i) a b
@@ -58,9 +33,10 @@ front-zeros zero many b = refl
 front-zeros (suc n) zero b = refl
 front-zeros (suc n) (suc many) b = ap (λ (x : List ℕ). 0 ∷ x) (front-zeros n many (tail₀ b))
 
--- one number more that is not above the other
-pub one-more-below : (x y : List ℕ) (i : ℕ) → ((k : ℕ) → k < i → slot x k ≤ slot y k) → slot x i ≤ slot y i → (k : ℕ) → k < i + 1 → slot x k ≤ slot y k
-one-more-below x y i below here k l = by-eq k i (λ e. rw e here) (λ e. below k (omega arith))
+-- a start counts its task's next job number up by one
+pub put-next : (x : List ℕ) (i : ℕ) → put-slot x i (slot x i + 1) ≡ start-job x i
+put-next x zero = rw (add-one (head₀ x))
+put-next x (suc i) = ap (λ (y : List ℕ). head₀ x ∷ y) (put-next (tail₀ x) i)
 
 -- the running job, tested: it is not the last one started
 module _ (t : Task) (next : ℕ) (r : Running) where

@@ -1,5 +1,6 @@
 -- The next start of a state, as the code makes it out of what it was answered. Assumes nothing.
 use mathlib.Core.Path.{_≡_, refl, sym, _∙_, ap}
+use mathlib.Core.Bool.{Bool}
 use mathlib.Core.List.{List}
 use Prim.Native.Nat.{ℕ, zero, suc, _+_, _*_, _≤_, _<_}
 use native.Mathlib.Omega.{arith}
@@ -20,6 +21,8 @@ use Rattle.rules.proofs.PriorityLaws.{keeps-rules, setting-laws}
 use Rattle.rules.proofs.GoodSets.{good-rules, set-good}
 use Rattle.rules.proofs.StuckStarts.{by-next}
 use Rattle.rules.proofs.NextTurns.{next-unreadable, next-idles, idle-ends, next-starts, next-refused, by-one-turn}
+use Rattle.numbers.specs.declared.Going.the-variants.{Moves}
+use Rattle.numbers.specs.Going.{cycle-from, next-from, inversions-from, turn-of}
 use Rattle.decision.specs.declared.Found.{Found}
 use Rattle.decision.specs.declared.NextStart.{NextStart as Answer}
 use Rattle.decision.specs.declared.NextStart.the-variants.{Starts, Stuck}
@@ -27,6 +30,7 @@ use Rattle.decision.specs.Fits.{Fits}
 use Rattle.decision.specs.Next.{inverts, next-case}
 use Rattle.records.proofs.Arrays.{slot-element}
 use Rattle.tables.proofs.Stores.{start-stores, put-stores}
+use Rattle.dispatcher.proofs.Slots.{put-next}
 
 module _ (bytes : List ℕ) {ts : List Task} (good : GoodSet ts (hyperperiod ts)) (x : List ℕ) (offsets : List ℕ) (i t w : ℕ) where
   -- task i is of the set and has a job left
@@ -121,18 +125,43 @@ module _ (bytes : List ℕ) (d : State) {h n : ℕ} {many slack x releases : Lis
       rw (← same) (omega (arith, left .0, fits .set .n-tasks), omega (arith, left .1, cycle-is, div-le-self (hyperperiod (set-of d)) (task (set-of d) i .period))))
 
   -- the turn that makes the start
+  found-turn : (c : ℕ) (found : Found) → answer ≡ Starts found →
+      turn-with d c (found .task) (slot x (found .task)) (c * h + found .start) (found .start) (start-job x (found .task)) (found .idle)
+      (put-slot offsets (found .task) (found .inversion))
+      ≡ start-next bytes d c x f offsets o
+  found-turn c found e = by-found found e (λ i t w g same. rw (← same, cycle-is) (sym (ap (started bytes d c x offsets) g)))
+
+  -- as it is made of stores in arrays
   pub start-turn : (c : ℕ) (found : Found) → answer ≡ Starts found → length x ≡ 16 → length offsets ≡ 16 →
       turn-with d c (found .task) (getD x (found .task) 0) (c * h + found .start) (found .start)
       (set x (found .task) (getD x (found .task) 0 + 1)) (found .idle) (set offsets (found .task) (found .inversion))
       ≡ start-next bytes d c x f offsets o
   start-turn c found e slots offset-slots =
-      let a = found-task found e .0 in
-      let few = fits .set .few in
-      by-found found e
-      (λ i t w g same.
-      let here : found .task ≡ i = cc in
-      let inside : i < 16 = omega arith in
-      let job : getD x i 0 ≡ slot x i = sym (slot-element x i) in
-      let next : set x i (getD x i 0 + 1) ≡ start-job x i = start-stores x i (omega arith) in
-      let moves : set offsets i (told i t w .inversion) ≡ put-slot offsets i (told i t w .inversion) = put-stores offsets i _ (omega arith) in
-      rw (← same, next, job, moves, cycle-is) (sym (ap (started bytes d c x offsets) g)))
+      let i : ℕ = found .task in
+      let next : set x i (getD x i 0 + 1) ≡ start-job x i = start-stores x i (omega (arith, found-task found e .0, fits .set .few)) in
+      let moves : set offsets i (found .inversion) ≡ put-slot offsets i (found .inversion) =
+      put-stores offsets i _ (omega (arith, found-task found e .0, fits .set .few)) in
+      rw (next, ← slot-element x i, moves) (found-turn c found e)
+
+  -- as a change of the state
+  pub start-moves : (c : ℕ) (found : Found) → answer ≡ Starts found → (again : Bool) → c ≡ cycle-from d again → x ≡ next-from d again →
+      offsets ≡ inversions-from d again →
+      start-next bytes d c x f offsets o
+      ≡ turn-of d
+      (Moves
+      (record {
+        again = again;
+        task = found .task;
+        job = getD x (found .task) 0;
+        start = found .start;
+        idle = found .idle;
+        inversion = found .inversion;
+        time = c * h + found .start;
+      }))
+  unfolding turn-of
+  start-moves c found e again in-cycle next-are offsets-are =
+      let i : ℕ = found .task in
+      sym (found-turn c found e)
+      ∙ rw (← put-next x i, slot-element x i)
+      (λ k. turn-with d (in-cycle k) i (getD x i 0) (c * h + found .start) (found .start) (put-slot (next-are k) i (getD x i 0 + 1)) (found .idle)
+      (put-slot (offsets-are k) i (found .inversion)))

@@ -1,5 +1,7 @@
 // The dispatcher: beginning and going on, with the state handed in and back by value, and in place. For any bytes, any state and any reported end.
 use decision::NextStart;
+use numbers::Going;
+use numbers::Move;
 use rules::Dispatcher;
 use rules::Offsets;
 use rules::Refusal;
@@ -11,14 +13,16 @@ use rules::Task;
 use rules::TaskSet;
 use rules::Turn;
 ghost use mathlib.Core.Path.{_≡_};
-ghost use mathlib.Core.List.{[], _∷_};
-ghost use Prim.Native.Nat.{_≤_};
+ghost use Prim.Native.Nat.{ℕ, _+_, _*_, _≤_};
 ghost use lib.ListN.{length};
+ghost use Rattle.rules.specs.declared.Dispatcher.{Dispatcher as State};
 ghost use Rattle.rules.specs.Refusals as book-refusals;
 ghost use Rattle.rules.specs.Dispatcher as book;
+ghost use Rattle.numbers.specs.Numbers.{number-at, state-from};
+ghost use Rattle.records.specs.Tables.{Filled};
 ghost use Rattle.decision.specs.Fits.{Fits};
-ghost use Rattle.dispatcher.specs.Tested.{each-at-most, last-and-in-time};
-ghost use Rattle.dispatcher.specs.States.{WithGoodSet, CanGoOn};
+ghost use Rattle.dispatcher.specs.Tested.{last-and-in-time};
+ghost use Rattle.dispatcher.specs.States.{WithGoodSet, CanMeasure, Measured, CanGoOn, StartFrom, Makes};
 
 // The last cycle.
 const LAST: u32 = 4294967295;
@@ -61,107 +65,6 @@ fn refused(number: u32, place: usize, state: Dispatcher) -> Turn
 {
     let answer = StartAnswer::Refused(Refusal { number, place });
     Turn { answer, state }
-}
-
-// Are all sixteen numbers 0?
-fn all_zero(numbers: &[u32; 16]) -> bool
-    requires { ⌜ length (now numbers) ≡ 16 ⌝ }
-    ensures { λ r. ⌜ r ≡ book.all-zero (now (numbers .entry)) ⌝ }
-{
-    let mut i: usize = 0;
-    while i < 16 {
-        if numbers[i] != 0 {
-            return false;
-        }
-        i += 1;
-    }
-    true
-}
-
-// Are all numbers of a task 0?
-fn zero_task(t: Task) -> bool
-    ensures { λ r. ⌜ r ≡ book.all-zero (book.task-numbers (t ∷ [])) ⌝ }
-{
-    if t.offset != 0 {
-        return false;
-    }
-    if t.time != 0 {
-        return false;
-    }
-    if t.period != 0 {
-        return false;
-    }
-    t.deadline == 0
-}
-
-// Are all numbers of all sixteen tasks 0?
-fn zero_tasks(s: TaskSet) -> bool
-    ensures { λ r. ⌜ r ≡ book.all-zero (book.task-numbers (s .tasks)) ⌝ }
-{
-    let mut i: usize = 0;
-    while i < 16 {
-        if !zero_task(s.tasks[i]) {
-            return false;
-        }
-        i += 1;
-    }
-    true
-}
-
-// Are all offsets 0?
-fn zero_offsets(o: Offsets) -> bool
-    ensures { λ r. ⌜ r ≡ book.all-zero (o .idle ∷ o .inversions) ⌝ }
-{
-    if o.idle != 0 {
-        return false;
-    }
-    all_zero(&o.inversions)
-}
-
-// Is it the stopped state? A state with a task is seen at once not to be.
-fn is_stopped(d: Dispatcher) -> bool
-    ensures { λ r. ⌜ r ≡ book.is-stopped d ⌝ }
-{
-    if d.set.n != 0 {
-        return false;
-    }
-    if d.cycle != 0 {
-        return false;
-    }
-    if d.running.task != 0 {
-        return false;
-    }
-    if d.running.job != 0 {
-        return false;
-    }
-    if d.running.start != 0 {
-        return false;
-    }
-    if !zero_tasks(d.set) {
-        return false;
-    }
-    if !all_zero(&d.next) {
-        return false;
-    }
-    if !zero_offsets(d.now) {
-        return false;
-    }
-    zero_offsets(d.first)
-}
-
-// Is each of the first n numbers at most the one in the same slot of another array?
-fn each_at_most<'a>(n: usize, numbers: &'a [u32; 16], bounds: &'a [u32; 16]) -> bool
-    requires { ⌜ n ≤ 16 ⌝ }
-    ensures { λ r. ⌜ r ≡ each-at-most n (now (numbers .entry)) (now (bounds .entry)) ⌝ }
-{
-    let mut i: usize = 0;
-    while i < n {
-        if bounds[i] < numbers[i] {
-            return false;
-        }
-        i += 1;
-    }
-    true
 }
 
 // Is a job of a task the last one started, with the task's next job number; released when it started, and in time?
@@ -212,6 +115,7 @@ fn start_next(
     let n = d.set.n as usize;
     match decision::next_start(
         image,
+        false,
         n,
         h,
         jobs,
@@ -260,103 +164,258 @@ fn start_next(
     }
 }
 
-// The next job of this cycle, from a free instant, or, when all have started, the first of the next; 24 behind the last cycle.
-fn next_turn(
+// What a call asks of each task, into lent arrays: its jobs a cycle, D − C, and the release of its next job. False where a next job number is above
+// its task's jobs; then the arrays are left as they came to be.
+fn measured(
+    numbers: &[u32; 119],
+    h: u32,
+    n: usize,
+    jobs: &mut [u32; 16],
+    slack: &mut [u32; 16],
+    release: &mut [u32; 16],
+) -> bool
+    requires { ⌜ CanMeasure (now numbers) h n (now jobs) (now slack) (now release) ⌝ }
+    ensures { λ r. ⌜ Measured (now (numbers .entry)) h n r (now (jobs .exit)) (now (slack .exit)) (now (release .exit)) ⌝ }
+{
+    let mut before: u32 = 0;
+    let mut many: u32 = 0;
+    let mut i: usize = 0;
+    'tasks: loop {
+        if n <= i {
+            break 'tasks true;
+        }
+        let t = numbers::task_from(numbers, 1 + 4 * i);
+        if t.period != before {
+            many = sets::jobs(h, t);
+            before = t.period;
+        }
+        let next = numbers[65 + i];
+        if many < next {
+            break 'tasks false;
+        }
+        jobs[i] = many;
+        slack[i] = t.deadline - t.time;
+        release[i] = t.offset + next * t.period;
+        i += 1;
+    }
+}
+
+// The release of each of n tasks' job 0: its offset.
+fn first_releases(numbers: &[u32; 119], n: usize, release: &mut [u32; 16])
+    requires { ⌜ (n ≤ 16) × (length (now release) ≡ 16) ⌝ }
+    ensures { λ _. ⌜ Filled (now (release .entry)) (λ (i : ℕ). number-at (now (numbers .entry)) (1 + 4 * i)) 0 n (now (release .exit)) ⌝ }
+{
+    let mut i: usize = 0;
+    while i < n {
+        release[i] = numbers[1 + 4 * i];
+        i += 1;
+    }
+}
+
+// The next start in a cycle, as a change of the state; it is stopped with 25 where there is none.
+fn moves(
     image: &[u8],
-    d: Dispatcher,
+    again: bool,
+    n: usize,
     h: u32,
     jobs: &[u32; 16],
     slack: &[u32; 16],
+    cycle: u32,
+    next: &[u32; 16],
+    release: &[u32; 16],
     free: u32,
-) -> Turn
-    requires { ⌜ CanGoOn d h (now jobs) (now slack) free ⌝ }
-    ensures { λ r. ⌜ r ≡ book.next-turn (now (image .entry)) d ⌝ }
+    idle: u32,
+    offsets: &[u32; 16],
+) -> Going
+    requires { ⌜ ((d : State) × StartFrom d again n h (now jobs) (now slack) cycle (now next) (now release) (now offsets)) × (free ≤ h) ⌝ }
+    ensures { λ r. ⌜ ((d : State) →
+        StartFrom d again n h (now (jobs .entry)) (now (slack .entry)) cycle (now (next .entry)) (now (release .entry)) (now (offsets .entry)) →
+        Makes d (book.start-next (now (image .entry)) d cycle (now (next .entry)) free (now (offsets .entry)) idle) r) ⌝ }
 {
-    let n = d.set.n as usize;
-    let set = d.set;
-    let next = d.next;
-    let now = d.now;
-    let release = tables::releases_of(set, &next);
-    if tables::all_started(n, h, &release) {
-        if d.cycle < LAST {
-            let zeros = [0u32; 16];
-            let none = front(n, &zeros, &next);
-            let again = tables::releases_of(set, &none);
-            let first = d.first;
-            let offsets = front(n, &first.inversions, &now.inversions);
-            return start_next(
-                image,
-                d,
-                h,
-                jobs,
-                slack,
-                d.cycle + 1,
-                none,
-                &again,
-                0,
-                offsets,
-                first.idle,
-            );
-        }
-        return refused(24, 0, d);
-    }
-    let offsets = now.inversions;
-    start_next(
+    match decision::next_start(
         image,
-        d,
+        false,
+        n,
         h,
         jobs,
         slack,
-        d.cycle,
         next,
-        &release,
+        release,
         free,
+        idle,
         offsets,
-        now.idle,
+    ) {
+        NextStart::Stuck(_) => Going::Stops(25),
+        NextStart::Starts(f) => {
+            let i = f.task as usize;
+            Going::Moves(Move {
+                again,
+                task: f.task,
+                job: next[i],
+                start: f.start,
+                idle: f.idle,
+                inversion: f.inversion,
+                time: (cycle as u64) * (h as u64) + (f.start as u64),
+            })
+        }
+    }
+}
+
+// The next job of this cycle, from a free instant, or, when all have started, the first of the next; 24 behind the last cycle.
+fn next_going(
+    image: &[u8],
+    numbers: &[u32; 119],
+    n: usize,
+    h: u32,
+    jobs: &[u32; 16],
+    slack: &[u32; 16],
+    release: &[u32; 16],
+    free: u32,
+) -> Going
+    requires { ⌜ CanGoOn (state-from (now numbers)) n h (now jobs) (now slack) (now release) free ⌝ }
+    ensures { λ r. ⌜ Makes (state-from (now (numbers .entry))) (book.next-turn (now (image .entry)) (state-from (now (numbers .entry)))) r ⌝ }
+{
+    let next = numbers::numbers_from(numbers, 65);
+    let offsets = numbers::numbers_from(numbers, 86);
+    let cycle = numbers[81];
+    if tables::all_started(n, h, release) {
+        if cycle < LAST {
+            let zeros = [0u32; 16];
+            let first = numbers::numbers_from(numbers, 103);
+            let none = front(n, &zeros, &next);
+            let again = front(n, &first, &offsets);
+            let mut releases = [0u32; 16];
+            first_releases(numbers, n, &mut releases);
+            return moves(
+                image,
+                true,
+                n,
+                h,
+                jobs,
+                slack,
+                cycle + 1,
+                &none,
+                &releases,
+                0,
+                numbers[102],
+                &again,
+            );
+        }
+        return Going::Stays(24);
+    }
+    moves(
+        image,
+        false,
+        n,
+        h,
+        jobs,
+        slack,
+        cycle,
+        &next,
+        release,
+        free,
+        numbers[85],
+        &offsets,
     )
 }
 
-// Going on with a state that is not stopped and whose set is good.
-fn go_on_good(image: &[u8], d: Dispatcher, h: u32, end: u64) -> Turn
-    requires { ⌜ WithGoodSet d h ⌝ }
-    ensures { λ r. ⌜ r ≡ book.go-on (now (image .entry)) d end ⌝ }
+// The absolute time of an instant in a cycle of h ticks.
+fn absolute(cycle: u32, h: u32, at: u32) -> u64
+    ensures { λ r. ⌜ r ≡ cycle * h + at ⌝ }
 {
-    let n = d.set.n as usize;
-    let set = d.set;
-    let jobs = records::jobs_of(h, set);
-    if !each_at_most(n, &d.next, &jobs) {
-        return refused(25, 0, stopped());
-    }
-    let i = d.running.task as usize;
-    if n <= i {
-        return refused(25, 0, stopped());
-    }
-    let t = set.tasks[i];
-    if !last_and_in_time(t, d.next[i], d.running) {
-        return refused(25, 0, stopped());
-    }
-    let began = (d.cycle as u64) * (h as u64) + (d.running.start as u64);
-    if end < began {
-        return refused(21, 0, d);
-    }
-    if began + (t.time as u64) < end {
-        return refused(22, 0, stopped());
-    }
-    let slack = records::slack_of(set);
-    next_turn(image, d, h, &jobs, &slack, d.running.start + t.time)
+    (cycle as u64) * (h as u64) + (at as u64)
 }
 
-// Going on, in the order 23, 25 for the state, 21, 22, 24, 25 for bytes.
+// Going on with a state that is not stopped and whose set is good.
+fn going_good(image: &[u8], numbers: &[u32; 119], h: u32, end: u64) -> Going
+    requires { ⌜ WithGoodSet (state-from (now numbers)) h ⌝ }
+    ensures { λ r. ⌜ Makes (state-from (now (numbers .entry))) (book.go-on (now (image .entry)) (state-from (now (numbers .entry))) end) r ⌝ }
+{
+    let n = numbers[0] as usize;
+    let mut jobs = [0u32; 16];
+    let mut slack = [0u32; 16];
+    let mut release = [0u32; 16];
+    if !measured(numbers, h, n, &mut jobs, &mut slack, &mut release) {
+        return Going::Stops(25);
+    }
+    let running = Running {
+        task: numbers[82],
+        job: numbers[83],
+        start: numbers[84],
+    };
+    let i = running.task as usize;
+    if n <= i {
+        return Going::Stops(25);
+    }
+    let t = numbers::task_from(numbers, 1 + 4 * i);
+    if !last_and_in_time(t, numbers[65 + i], running) {
+        return Going::Stops(25);
+    }
+    let began = absolute(numbers[81], h, running.start);
+    if end < began {
+        return Going::Stays(21);
+    }
+    if (t.time as u64) < end - began {
+        return Going::Stops(22);
+    }
+    next_going(
+        image,
+        numbers,
+        n,
+        h,
+        &jobs,
+        &slack,
+        &release,
+        running.start + t.time,
+    )
+}
+
+// Are all numbers of a state 0? A state with a task is seen at once not to be stopped.
+fn is_stopped(numbers: &[u32]) -> bool
+    requires { ⌜ length (now numbers) ≡ book.number-count ⌝ }
+    ensures { λ r. ⌜ r ≡ book.is-stopped (state-from (now (numbers .entry))) ⌝ }
+{
+    let mut i: usize = 0;
+    while i < 119 {
+        if numbers[i] != 0 {
+            return false;
+        }
+        i += 1;
+    }
+    true
+}
+
+// Going on, in the order 23, 25 for the state, 21, 22, 24, 25 for bytes, as a change of the state.
+fn going(image: &[u8], numbers: &[u32; 119], end: u64) -> Going
+    ensures { λ r. ⌜ Makes (state-from (now (numbers .entry))) (book.go-on (now (image .entry)) (state-from (now (numbers .entry))) end) r ⌝ }
+{
+    if is_stopped(numbers) {
+        return Going::Stays(23);
+    }
+    match sets::judge_numbers(numbers[0], numbers, 1) {
+        SetAnswer::Refused(_) => Going::Stops(25),
+        SetAnswer::Good(f) => going_good(image, numbers, f.hyperperiod, end),
+    }
+}
+
+// Going on with the state's 119 numbers, of which those are stored that change.
+pub fn go_on_numbers(image: &[u8], numbers: &mut [u32; 119], end: u64) -> StartAnswer
+    ensures { λ r. ⌜ (r ≡ book.go-on (now (image .entry)) (state-from (now (numbers .entry))) end .answer)
+        × (now (numbers .exit) ≡ book.numbers (book.go-on (now (image .entry)) (state-from (now (numbers .entry))) end .state))
+        × (state-from (now (numbers .exit)) ≡ book.go-on (now (image .entry)) (state-from (now (numbers .entry))) end .state) ⌝ }
+{
+    let g = going(image, numbers, end);
+    numbers::store(numbers, g)
+}
+
+// Going on, with the state handed in and back by value.
 pub fn go_on(image: &[u8], d: Dispatcher, end: u64) -> Turn
     ensures { λ r. ⌜ r ≡ book.go-on (now (image .entry)) d end ⌝ }
 {
-    if is_stopped(d) {
-        return refused(23, 0, d);
-    }
-    match sets::judge_set(d.set) {
-        SetAnswer::Refused(_) => refused(25, 0, stopped()),
-        SetAnswer::Good(f) => go_on_good(image, d, f.hyperperiod, end),
-    }
+    let mut numbers = numbers::numbers_of(d);
+    let answer = go_on_numbers(image, &mut numbers, end);
+    let state = numbers::state_from(&numbers);
+    Turn { answer, state }
 }
 
 // Beginning: full acceptance, then the first start; a refused beginning hands back the stopped state.

@@ -5,22 +5,19 @@ use mathlib.Core.Bool.{true, false}
 use mathlib.Core.List.{List}
 use Prim.Native.Nat.{ℕ, suc, _≤_}
 use native.Mathlib.Omega.{arith}
-use borrow.Author.Tests.{le-leb, leb-true, le-ltb, eq-eqb, eqb-true}
-use lib.Dec.{leb, eqb}
-use lib.ListN.{length, getD, drop}
-use lib.Seq.{drop-drop}
+use borrow.Author.Tests.{le-leb, eq-eqb}
+use lib.ListN.{length, drop}
 use Rattle.rules.specs.declared.Place.{Place}
 use Rattle.rules.specs.declared.Layout.{Layout}
 use Rattle.rules.specs.Refusals.{Judged, gives}
 use Rattle.rules.specs.Marks.{Mark, TS, TK, SL, row, size, values}
-use Rattle.rules.specs.Framing.{may-follow, after-listed, goes-on, ends, Allowed, frame-records, frame}
-use Rattle.rules.proofs.Cases.{clash, differ, both-true, both-in}
-use Rattle.rules.proofs.Marked.{due-turn, found-allowed, allowed-found}
+use Rattle.rules.specs.Framing.{after-listed, goes-on, ends, Allowed, frame-records, frame}
+use Rattle.rules.proofs.Cases.{clash, differ, both-in}
+use Rattle.rules.proofs.Marked.{due-turn, found-allowed}
 use Rattle.rules.proofs.FramingTurns as turns
 use Rattle.images.specs.Table.{stands-at}
-use Rattle.images.proofs.TableLaws.{stands-whole}
 use Rattle.framing.specs.Frames.{Reached}
-use Rattle.framing.proofs.PlaceLaws.{placed-after}
+use Rattle.framing.proofs.Runs.{in-turn, past-record}
 use Rattle.framing.proofs.FromPlace.{frame-given, ended-at, listed-from}
 
 -- where no SL stands, no record of a timetable goes on behind the tasks
@@ -53,29 +50,9 @@ module _ {bytes : List ℕ} {s : Place} (re : Reached 1 bytes s) (behind : 2 ≤
   from-here : (l : Layout) → frame 1 bytes ≡ gives l → frame-records 1 s rest ≡ gives l
   from-here l e = sym (re .same) ∙ frame-given 1 bytes l e
 
-  -- it is an SL's turn
-  in-turn : may-follow (s .rank) (row SL .rank) ≡ true
-  in-turn = rw (le-ltb (s .rank) 2 behind, may-follow) (le-leb (s .rank) (row SL .rank) low)
-
-  -- a whole SL that stands here is allowed
-  here : stands-at bytes (s .offset) SL ≡ true → turns.Whole 1 s rest SL
-  unfolding stands-at
-  here e =
-      let a = both-true (leb (size SL) (length rest)) _ e in
-      let b = both-true (eqb (getD rest 0 0) (row SL .byte₁)) (eqb (getD rest 1 0) (row SL .byte₂)) (a .1) in
-      record {
-        marked = allowed-found 1 s rest SL
-            (record { first-byte = eqb-true _ _ (b .0); second-byte = eqb-true _ _ (b .1); of-kind = refl; its-turn = in-turn });
-        not-cut = leb-true (size SL) (length rest) (a .0);
-      }
-
   -- framing comes to the place behind an entry
-  pub past-entry : stands-at bytes (s .offset) SL ≡ true → Reached 1 bytes (after-listed SL s)
-  past-entry e = record {
-    placed = placed-after {kind = 1} bytes (re .placed) (stands-whole bytes (s .offset) SL e) in-turn (turns.past-entry {v = values SL rest});
-    same = re .same ∙ turns.frame-goes 1 s rest SL (after-listed SL s) (here e) refl
-        ∙ ap (frame-records 1 (after-listed SL s)) (drop-drop (size SL) (s .offset) bytes);
-  }
+  past-entry : stands-at bytes (s .offset) SL ≡ true → Reached 1 bytes (after-listed SL s)
+  past-entry e = past-record SL re refl (in-turn (s .rank) (row SL .rank) behind low) e (after-listed SL s) refl
 
   -- behind which one more is listed
   pub entry-counted : stands-at bytes (s .offset) SL ≡ true → (l : Layout) → frame 1 bytes ≡ gives l → suc (s .listed) ≤ l .listed

@@ -6,5 +6,6 @@ pub mod StepLaws
 pub mod TaskLaws
 pub mod FromPlace
 pub mod RoomLaws
+pub mod Runs
 pub mod Entries
 pub mod Promises

@@ -20,6 +20,11 @@ use Rattle.rules.proofs.Marked.{due-turn, later-turn}
 use Rattle.rules.proofs.FramingTurns as turns
 use Rattle.framing.specs.Frames.{Placed}
 
+-- a place is told by its numbers
+pub place-path : (p q : Place) → p .index ≡ q .index → p .offset ≡ q .offset → p .rank ≡ q .rank → p .due ≡ q .due → p .tasks ≡ q .tasks →
+    p .listed ≡ q .listed → p .inversions ≡ q .inversions → p ≡ q
+place-path p q a b c d e f g = λ i. record { index = a i; offset = b i; rank = c i; due = d i; tasks = e i; listed = f i; inversions = g i }
+
 -- before the first record
 pub placed-at-start : (bytes : List ℕ) → Placed bytes start-place
 placed-at-start bytes = record {

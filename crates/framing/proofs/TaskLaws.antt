@@ -24,7 +24,7 @@ use Rattle.framing.specs.declared.Step.the-variants as step-case
 use Rattle.framing.specs.declared.FrameAnswer.the-variants as frame-case
 use Rattle.framing.specs.declared.TasksAnswer.{TasksAnswer}
 use Rattle.framing.specs.declared.TasksAnswer.the-variants.{Framed, Refused}
-use Rattle.framing.specs.Frames.{Placed, Steps, Reached, TasksFramed, frame-answer}
+use Rattle.framing.specs.Frames.{Placed, Steps, Reached, TowardsTasks, TasksFramed, frame-answer}
 use Rattle.framing.specs.SetRead.{tasks-offset}
 use Rattle.framing.proofs.StepLaws.{goes-further, refused-frame}
 
@@ -45,19 +45,10 @@ number-of-tasks (a ∷ b ∷ c ∷ []) h = absurd (omega arith)
 number-of-tasks (a ∷ b ∷ c ∷ d ∷ []) h = absurd (omega arith)
 number-of-tasks (a ∷ b ∷ c ∷ d ∷ n ∷ bytes) h = omega arith
 
--- a place on the way: the image's first, or one where so many tasks are due that they end where all tasks end
-pub record TowardsTasks (bytes : List ℕ) (s : Place) : Type 0 where
-  first : s .rank ≡ 0 → s .offset ≡ 0
-  low : s .rank ≤ 2
-  none-due : 2 ≤ s .rank → s .due ≡ 0
-  nothing-listed : (s .listed ≡ 0) × (s .inversions ≡ 0)
-  announced : 1 ≤ s .rank → (s .tasks ≡ getD bytes 4 0) × (1 ≤ s .tasks) × (s .tasks ≤ 16)
-  counted : 1 ≤ s .rank → (s .index + s .due ≡ suc (s .tasks)) × (s .offset + s .due * size TK ≡ tasks-offset (s .tasks))
-
 -- before the first record
 pub towards-at-start : (bytes : List ℕ) → TowardsTasks bytes (record { index = 0; offset = 0; rank = 0; due = 0; tasks = 0; listed = 0; inversions = 0 })
 towards-at-start bytes = record {
-  first = λ r. refl;
+  first = λ r. (refl, refl);
   low = omega arith;
   none-due = λ r. refl;
   nothing-listed = (refl, refl);
@@ -66,7 +57,7 @@ towards-at-start bytes = record {
 }
 
 -- where so many TK records are due
-towards-due : (bytes : List ℕ) (index offset due n : ℕ) → n ≡ getD bytes 4 0 → 1 ≤ n → n ≤ 16 → index + due ≡ suc n →
+pub towards-due : (bytes : List ℕ) (index offset due n : ℕ) → n ≡ getD bytes 4 0 → 1 ≤ n → n ≤ 16 → index + due ≡ suc n →
     offset + due * size TK ≡ tasks-offset n → TowardsTasks bytes (tasks-due index offset due n)
 towards-due bytes index offset zero n e some few counted ends = record {
   first = λ r. absurd (omega arith);
@@ -91,7 +82,7 @@ towards-after : {kind : ℕ} {s t : Place} {m : Mark} {v : List ℕ} (bytes : Li
     TowardsTasks bytes t
 towards-after {kind} {s = s} bytes p w low inside read turn (turns.past-head {v = v} e) =
     let is-first : s .rank ≡ 0 = due-turn (s .rank) (row TS .rank) (omega arith) turn in
-    let at-start : s .offset ≡ 0 = w .first is-first in
+    let at-start : s .offset ≡ 0 = w .first is-first .0 in
     let n = counts-tasks kind (s .index) v e in
     let all : v ≡ values TS bytes = rw at-start at read in
     let is : slot v 2 ≡ getD bytes 4 0 = ap (λ (u : List ℕ). slot u 2) all ∙ number-of-tasks bytes (omega arith) in
@@ -158,10 +149,10 @@ module _ (kind : ℕ) (bytes : List ℕ) (s : Place) (re : Reached kind bytes s)
 
 -- what an answer for the tasks says of the image
 module _ (kind : ℕ) (bytes : List ℕ) (a : TasksAnswer) (framed : TasksFramed kind bytes a) where
-  -- framing comes to the place that is answered
-  pub tasks-reached : (s : Place) → a ≡ Framed s → Reached kind bytes s
+  -- framing comes to the place that is answered, where the later records may stand
+  pub tasks-reached : (s : Place) → a ≡ Framed s → Reached kind bytes s × (2 ≤ s .rank) × (s .rank ≤ 6)
   unfolding TasksFramed
-  tasks-reached s e = (rw e at framed) .0
+  tasks-reached s e = let f = rw e at framed in (f .0, omega (arith, f .1 .rank), omega (arith, f .1 .rank))
 
   -- and has the refusal that is answered
   pub tasks-refused : (r : Refusal) → a ≡ Refused r → frame-case.Refused r ≡ frame-answer (frame kind bytes)

@@ -2,15 +2,15 @@
 use mathlib.Core.Path.{_≡_}
 use mathlib.Core.Bool.{true}
 use mathlib.Core.List.{List}
-use Prim.Native.Nat.{ℕ, suc, _+_, _≤_, _<_}
+use Prim.Native.Nat.{ℕ, suc, _+_, _*_, _≤_, _<_}
 use lib.ListN.{length, getD, drop}
 use Rattle.rules.specs.declared.Place.{Place}
 use Rattle.rules.specs.declared.Layout.{Layout}
 use Rattle.rules.specs.Refusals.{Judged, gives, refuses}
 use Rattle.rules.specs.Tasks.{limits}
-use Rattle.rules.specs.Marks.{Mark, row, size, values}
+use Rattle.rules.specs.Marks.{Mark, TK, row, size, values}
 use Rattle.rules.specs.Framing.{Next, goes-on, ends, may-follow, after, start-place, frame-records, index-of-end, frame}
-use Rattle.images.specs.Table.{mark-of}
+use Rattle.images.specs.Table.{mark-of, stands-at}
 use Rattle.framing.specs.declared.Step.{Step}
 use Rattle.framing.specs.declared.Step.the-variants as step-case
 use Rattle.framing.specs.declared.FrameAnswer.{FrameAnswer}
@@ -62,6 +62,21 @@ Steps kind bytes s (step-case.Refused r) = (frame-records kind s (drop (s .offse
 pub record Reached (kind : ℕ) (bytes : List ℕ) (s : Place) : Type 0 where
   pub placed : Placed bytes s
   pub same : frame-records kind start-place bytes ≡ frame-records kind s (drop (s .offset) bytes)
+
+-- so many whole records with a mark, at most those asked for, stand one behind the other from a byte on
+pub record RunOf (bytes : List ℕ) (from : ℕ) (m : Mark) (most many : ℕ) : Type 0 where
+  pub asked : many ≤ most
+  pub inside : from + many * size m ≤ length bytes
+  pub stand : (j : ℕ) → j < many → stands-at bytes (from + j * size m) m ≡ true
+
+-- a place on the way to the one behind the tasks: the image's first, or one where so many tasks are due that they end where all tasks end
+pub record TowardsTasks (bytes : List ℕ) (s : Place) : Type 0 where
+  pub first : s .rank ≡ 0 → (s .offset ≡ 0) × (s .due ≡ 0)
+  pub low : s .rank ≤ 2
+  pub none-due : 2 ≤ s .rank → s .due ≡ 0
+  pub nothing-listed : (s .listed ≡ 0) × (s .inversions ≡ 0)
+  pub announced : 1 ≤ s .rank → (s .tasks ≡ getD bytes 4 0) × (1 ≤ s .tasks) × (s .tasks ≤ 16)
+  pub counted : 1 ≤ s .rank → (s .index + s .due ≡ suc (s .tasks)) × (s .offset + s .due * size TK ≡ tasks-offset (s .tasks))
 
 -- the place behind TS and the tasks that it announces
 pub record BehindTasks (bytes : List ℕ) (s : Place) : Type 0 where

@@ -1,6 +1,8 @@
 // Framing: record by record, left from inside with the first refusal; and the set of an image whose tasks are framed.
 use images::EN;
+use images::ID;
 use images::PV;
+use images::SL;
 use images::TK;
 use images::TS;
 use images::body_of;
@@ -20,8 +22,9 @@ ghost use Prim.Native.Nat.{_<_, _≤_};
 ghost use lib.ListN.{length};
 ghost use Rattle.rules.specs.Refusals.{refusal};
 ghost use Rattle.rules.specs.Framing.{frame as frame-of};
+ghost use Rattle.images.specs.Table.{mark-of};
 ghost use Rattle.framing.specs.Allowed.{kind-at, allowed-at};
-ghost use Rattle.framing.specs.Frames.{Placed, Whole, Follows, Steps, Reached, TasksFramed, frame-answer};
+ghost use Rattle.framing.specs.Frames.{Placed, Whole, Follows, Steps, Reached, RunOf, TowardsTasks, TasksFramed, frame-answer};
 ghost use Rattle.framing.specs.SetRead.{tasks-offset, set-read};
 
 // Does an image of a kind have a mark?
@@ -204,6 +207,99 @@ pub enum FrameAnswer {
     Refused(Refusal),
 }
 
+// How many whole records with a mark stand one behind the other from a place on, counted up to a bound.
+fn run(image: &[u8], from: usize, k: usize, most: usize) -> usize
+    requires { ⌜ from ≤ length (now image) ⌝ }
+    ensures { λ r. ⌜ RunOf (now (image .entry)) from (mark-of k) most r ⌝ }
+{
+    let size = body_of(k) + 2;
+    let mut at = from;
+    let mut count: usize = 0;
+    'records: loop {
+        if most <= count {
+            break 'records count;
+        }
+        if !images::stands(image, at, k) {
+            break 'records count;
+        }
+        at += size;
+        count += 1;
+    }
+}
+
+// Past the TK records that stand here and are due.
+fn past_tasks(image: &[u8], kind: u32, s: Place) -> Place
+    requires { ⌜ Reached kind (now image) s × TowardsTasks (now image) s ⌝ }
+    ensures { λ r. ⌜ Reached kind (now (image .entry)) r × TowardsTasks (now (image .entry)) r × (s .offset ≤ r .offset) ⌝ }
+{
+    let count = run(image, s.offset, TK, s.due);
+    if count < 1 {
+        return s;
+    }
+    let mut rank: usize = 2;
+    if count < s.due {
+        rank = 1;
+    }
+    Place {
+        index: s.index + count,
+        offset: s.offset + count * (body_of(TK) + 2),
+        rank,
+        due: s.due - count,
+        tasks: s.tasks,
+        listed: s.listed,
+        inversions: s.inversions,
+    }
+}
+
+// Past the SL or ID records that stand here, by the kind of image.
+fn past_listed(image: &[u8], kind: u32, s: Place) -> Place
+    requires { ⌜ Reached kind (now image) s × (2 ≤ s .rank) × (s .rank ≤ 6) ⌝ }
+    ensures { λ r. ⌜ Reached kind (now (image .entry)) r × (2 ≤ r .rank) × (r .rank ≤ 6) ⌝ }
+{
+    let mut k = ID;
+    if kind == 1 {
+        k = SL;
+    }
+    let row = row_of(k);
+    let count = run(image, s.offset, k, image.len());
+    if count < 1 {
+        return s;
+    }
+    Place {
+        index: s.index + count,
+        offset: s.offset + count * (row.body + 2),
+        rank: row.rank,
+        due: s.due,
+        tasks: s.tasks,
+        listed: s.listed + count,
+        inversions: s.inversions,
+    }
+}
+
+// Past the PV records that stand here in a table image.
+fn past_inversions(image: &[u8], kind: u32, s: Place) -> Place
+    requires { ⌜ Reached kind (now image) s × (2 ≤ s .rank) × (s .rank ≤ 6) ⌝ }
+    ensures { λ r. ⌜ Reached kind (now (image .entry)) r ⌝ }
+{
+    if kind == 1 {
+        return s;
+    }
+    let row = row_of(PV);
+    let count = run(image, s.offset, PV, image.len());
+    if count < 1 {
+        return s;
+    }
+    Place {
+        index: s.index + count,
+        offset: s.offset + count * (row.body + 2),
+        rank: row.rank,
+        due: s.due,
+        tasks: s.tasks,
+        listed: s.listed,
+        inversions: s.inversions + count,
+    }
+}
+
 // TS and the tasks framed: the place behind them.
 pub enum TasksAnswer {
     Framed(Place),
@@ -229,7 +325,7 @@ pub fn frame_tasks(image: &[u8], kind: u32) -> TasksAnswer
         }
         match step_at(image, kind, s) {
             Step::GoesOn(t) => {
-                s = t;
+                s = past_tasks(image, kind, t);
             }
             Step::Refused(r) => {
                 break 'records TasksAnswer::Refused(r);
@@ -277,7 +373,10 @@ pub fn frame(image: &[u8], kind: u32) -> FrameAnswer
 {
     match frame_tasks(image, kind) {
         TasksAnswer::Refused(r) => FrameAnswer::Refused(r),
-        TasksAnswer::Framed(s) => frame_from(image, kind, s),
+        TasksAnswer::Framed(s) => {
+            let behind = past_listed(image, kind, s);
+            frame_from(image, kind, past_inversions(image, kind, behind))
+        }
     }
 }
 

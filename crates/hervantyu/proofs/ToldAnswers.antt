@@ -13,7 +13,8 @@ use Rattle.rules.specs.Dispatcher.{numbers}
 use Rattle.rules.specs.Refusals.{Told, tells, tells-refusal, start-tells}
 use Rattle.rules.specs.Priority.{slot}
 use Rattle.rules.proofs.Cases.{clash}
-use Rattle.hervantyu.specs.Lent.{value-if, value-or, CheckTold, MakeTold, state-from, start-or, StartTold, TurnTold}
+use Rattle.numbers.specs.Numbers.{state-from}
+use Rattle.hervantyu.specs.Lent.{value-if, value-or, CheckTold, MakeTold, start-or, StartTold, TurnTold}
 
 -- an answer with values: number and place are 0, and a lent number holds its value
 module _ (t : Told) (values : List ℕ) (e : t ≡ tells values) where
@@ -48,6 +49,9 @@ check-told {number = number} {place = place} e t = subst (λ (a : CheckAnswer). 
 
 pub make-told : {a b : MakeAnswer} {old number place length : ℕ} → a ≡ b → MakeTold a old number place length → MakeTold b old number place length
 make-told {old = old} {number = number} {place = place} {length = length} e t = subst (λ (a : MakeAnswer). MakeTold a old number place length) e t
+
+pub start-told : {a b : StartAnswer} {old start : List ℕ} {number : ℕ} → a ≡ b → StartTold a old number start → StartTold b old number start
+start-told {old = old} {start = start} {number = number} e t = subst (λ (a : StartAnswer). StartTold a old number start) e t
 
 -- what is told of a turn's answer and state is told of a turn that is equal
 pub turn-told : {a b : Turn} {old start state : List ℕ} {number : ℕ} → a ≡ b → StartTold (a .answer) old number start →

@@ -1,12 +1,7 @@
 -- What the C face is lent and what it leaves there, in the rule book's terms. Assumes nothing.
 use mathlib.Core.Path.{_≡_}
 use mathlib.Core.List.{List, [], _∷_}
-use Prim.Native.Nat.{ℕ, zero, suc, _+_, _*_}
-use lib.ListN.{getD}
-use Rattle.rules.specs.declared.Task.{Task}
-use Rattle.rules.specs.declared.TaskSet.{TaskSet}
-use Rattle.rules.specs.declared.Offsets.{Offsets}
-use Rattle.rules.specs.declared.Dispatcher.{Dispatcher as State}
+use Prim.Native.Nat.{ℕ, zero, suc}
 use Rattle.rules.specs.declared.Turn.{Turn}
 use Rattle.rules.specs.declared.StartAnswer.{StartAnswer}
 use Rattle.rules.specs.declared.StartAnswer.the-variants as start-case
@@ -15,50 +10,10 @@ use Rattle.rules.specs.declared.MakeAnswer.{MakeAnswer}
 use Rattle.rules.specs.declared.MakeAnswer.the-variants.{Made, Refused}
 use Rattle.rules.specs.Refusals.{Told, set-tells, check-tells, make-tells, start-tells}
 use Rattle.rules.specs.Priority.{slot}
-use Rattle.rules.specs.Tasks.{limits, judge-set}
+use Rattle.rules.specs.Tasks.{judge-set}
 use Rattle.rules.specs.Operations.{check-timetable, check-tables, derive, derive-output, rebuild, rebuild-output}
 use Rattle.rules.specs.Dispatcher.{numbers, begin, go-on}
-
--- so many slots from the i-th on, each with its value
-unfoldable pub slots-from : {A : Type 0} → (ℕ → A) → ℕ → ℕ → List A
-slots-from value i zero = []
-slots-from value i (suc many) = value i ∷ slots-from value (suc i) many
-
--- sixteen slots, each with its value
-abbrev pub slots : {A : Type 0} → (ℕ → A) → List A
-slots value = slots-from value 0 (limits .tasks)
-
--- the number at a place
-abbrev pub number-at : List ℕ → ℕ → ℕ
-number-at lent at = getD lent at 0
-
--- the task in the four numbers from a place on: O, C, T, D
-abbrev pub task-from : List ℕ → ℕ → Task
-task-from lent at =
-    record { offset = number-at lent at; time = number-at lent (at + 1); period = number-at lent (at + 2); deadline = number-at lent (at + 3) }
-
--- a set of n tasks in the first of its slots, which the numbers from a place on fill
-abbrev pub set-from : ℕ → List ℕ → ℕ → TaskSet
-set-from n lent at = record { n = n; tasks = slots (λ (i : ℕ). task-from lent (at + 4 * i)) }
-
--- the sixteen numbers from a place on
-abbrev pub numbers-from : List ℕ → ℕ → List ℕ
-numbers-from lent at = slots (λ (i : ℕ). number-at lent (at + i))
-
--- the offsets that the numbers from a place on are: the idle's, then the inversions'
-abbrev pub offsets-from : List ℕ → ℕ → Offsets
-offsets-from lent at = record { idle = number-at lent at; inversions = numbers-from lent (at + 1) }
-
--- the dispatcher's state that 119 numbers are
-abbrev pub state-from : List ℕ → State
-state-from lent = record {
-  set = set-from (number-at lent 0) lent 1;
-  next = numbers-from lent 65;
-  cycle = number-at lent 81;
-  running = record { task = number-at lent 82; job = number-at lent 83; start = number-at lent 84 };
-  now = offsets-from lent 85;
-  first = offsets-from lent 102;
-}
+use Rattle.numbers.specs.Numbers.{set-from, state-from}
 
 -- a lent number afterwards: the answer's value, or what it held where the answer is a refusal
 abbrev pub value-if : ℕ → Told → ℕ → ℕ → ℕ

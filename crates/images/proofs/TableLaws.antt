@@ -2,7 +2,7 @@
 use mathlib.Core.Path.{_≡_, refl, sym}
 use mathlib.Core.Bool.{true, false}
 use mathlib.Core.List.{List, [], _∷_}
-use Prim.Native.Nat.{ℕ, zero, suc, _+_, _-_, _≤_, _<_}
+use Prim.Native.Nat.{ℕ, zero, suc, _+_, _-_, _*_, _≤_, _<_}
 use native.Mathlib.Nat.{add-zero}
 use native.Mathlib.Numerals.{add-one}
 use native.Mathlib.Omega.{arith}
@@ -10,8 +10,10 @@ use borrow.Author.Tests.{eq-eqb, ne-eqb, lt-leb, le-leb, leb-true}
 use lib.Dec.{eqb, leb}
 use lib.ListN.{length, getD, getElem?, drop, length-drop}
 use lib.Seq.{getD-drop}
+use Rattle.rules.specs.Tasks.{both}
 use Rattle.rules.specs.Marks.{Mark, TS, TK, SL, ID, PV, EN, row, marks, size, body-length, mark-in}
 use Rattle.rules.proofs.Cases.{by-eq, both-true}
+use Rattle.rules.proofs.Marked.{mark-bytes}
 use Rattle.images.specs.declared.Row.{Row}
 use Rattle.images.specs.Table.{mark-of, code-row, found-at, stands-at}
 
@@ -62,6 +64,15 @@ module _ (k a b : ℕ) (r : Row) (h : k < 6) (read : r ≡ code-row (mark-of k))
   pub mark-later : (r .first ≡ a → r .second ≡ b → ⊥) → mark-in (drop k marks) a b ≡ mark-in (drop (k + 1) marks) a b
   mark-later n = rw (add-one k) (later marks k a b h (rw read at n))
 
+-- two bytes as one number are two others exactly where each byte is the other
+pair-told : (a b x y : ℕ) → a < 256 → x < 256 → eqb (a + b * 256) (x + y * 256) ≡ both (eqb a x) (eqb b y)
+pair-told a b x y h k =
+    by-eq a x
+    (λ u. by-eq b y
+    (λ w. rw (eq-eqb a x u, eq-eqb b y w) (eq-eqb (a + b * 256) (x + y * 256) (omega arith)))
+    (λ n. rw (eq-eqb a x u, ne-eqb b y n) (ne-eqb (a + b * 256) (x + y * 256) (λ e. n (omega arith)))))
+    (λ n. rw (ne-eqb a x n) (ne-eqb (a + b * 256) (x + y * 256) (λ e. n (omega arith))))
+
 -- a whole record at a place, with the row that was read
 module _ (bytes : List ℕ) (at : ℕ) (m : Mark) where
   -- the bytes from the place on
@@ -85,19 +96,14 @@ module _ (bytes : List ℕ) (at : ℕ) (m : Mark) where
       not-cut : leb (size m) (length rest) ≡ true
       not-cut = let room : body-length m + 2 ≤ length bytes - at = rw read at h in le-leb (size m) (length rest) (omega (arith, length-drop at bytes))
 
-      -- the first byte is another
-      pub stands-other : (getD bytes at 0 ≡ r .first → ⊥) → false ≡ stands-at bytes at m
+      -- and the first two, as one number, decide
+      pub stands-pair : (p q : ℕ) → p ≡ getD bytes at 0 + getD bytes (at + 1) 0 * 256 → q ≡ r .first + r .second * 256 → getD bytes at 0 < 256 →
+          eqb p q ≡ stands-at bytes at m
       unfolding stands-at
-      stands-other n =
-          let other : getD bytes at 0 ≡ row m .byte₁ → ⊥ = rw read at n in
-          rw (not-cut, front, ne-eqb (getD bytes at 0) (row m .byte₁) other)
-
-      -- it is the mark's, and the second byte decides
-      pub stands-is : getD bytes at 0 ≡ r .first → eqb (getD bytes (at + 1) 0) (r .second) ≡ stands-at bytes at m
-      unfolding stands-at
-      stands-is e =
-          let same : getD bytes at 0 ≡ row m .byte₁ = rw read at e in
-          rw (read, not-cut, front, eq-eqb (getD bytes at 0) (row m .byte₁) same, getD-drop at bytes 1 0)
+      stands-pair p q is of byte =
+          let row-pair : q ≡ row m .byte₁ + row m .byte₂ * 256 = rw read at of in
+          rw (is, row-pair, not-cut, front, getD-drop at bytes 1 0)
+          (pair-told (getD bytes at 0) (getD bytes (at + 1) 0) (row m .byte₁) (row m .byte₂) byte (mark-bytes m .0))
 
   -- a whole record ends inside the image
   pub stands-whole : stands-at bytes at m ≡ true → at + size m ≤ length bytes

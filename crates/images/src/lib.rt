@@ -4,7 +4,7 @@ use rules::Idle;
 use rules::Inversion;
 use rules::Task;
 ghost use mathlib.Core.Path.{_≡_};
-ghost use Prim.Native.Nat.{_+_, _≤_};
+ghost use Prim.Native.Nat.{_+_, _*_, _≤_};
 ghost use lib.ListN.{length};
 ghost use Rattle.rules.specs.Marks as book-marks;
 ghost use Rattle.images.specs.Table.{mark-of, code-row, found-at, stands-at};
@@ -122,6 +122,13 @@ pub fn mark(a: u8, b: u8) -> usize
     6
 }
 
+// Two bytes as one number, so that a mark is told by one comparison.
+fn pair(a: u8, b: u8) -> u32
+    ensures { λ r. ⌜ r ≡ a + b * 256 ⌝ }
+{
+    (a as u32) + (b as u32) * 256
+}
+
 // Does a whole record with a mark stand at a place?
 pub fn stands(image: &[u8], at: usize, k: usize) -> bool
     requires { ⌜ at ≤ length (now image) ⌝ }
@@ -131,10 +138,7 @@ pub fn stands(image: &[u8], at: usize, k: usize) -> bool
     if image.len() - at < row.body + 2 {
         return false;
     }
-    if image[at] != row.first {
-        return false;
-    }
-    image[at + 1] == row.second
+    pair(image[at], image[at + 1]) == pair(row.first, row.second)
 }
 
 // The part of the image that begins at a place and has a length.

@@ -1,9 +1,9 @@
 -- Putting the entries of the rebuilt timetable: the walk through a cycle comes from start to start, and each start is put behind those before it.
 -- It is never stuck, and at its end all entries are put. Assumes nothing.
 use mathlib.Core.Path.{_≡_, refl, sym, _∙_, ap}
-use mathlib.Core.Bool.{true, false}
+use mathlib.Core.Bool.{false}
 use mathlib.Core.List.{List, [], _∷_, _++_, map}
-use Prim.Native.Nat.{ℕ, _+_, _*_, _-_, _≤_, _<_}
+use Prim.Native.Nat.{ℕ, _+_, _*_, _≤_, _<_}
 use native.Mathlib.Omega.{arith}
 use lib.ListN.{length, getD, set, length-append}
 use lib.Seq.{length-take-le}
@@ -32,9 +32,9 @@ use Rattle.records.proofs.SetKept.{in-time, fits}
 use Rattle.decision.specs.declared.Found.{Found}
 use Rattle.decision.specs.declared.NextStart.the-variants.{Starts, Stuck}
 use Rattle.decision.specs.Next.{next-case}
-use Rattle.tables.specs.Releases.{tasks-of, releases-of, ReleasesFit, none-before}
+use Rattle.tables.specs.Releases.{tasks-of, releases-of, ReleasesFit}
 use Rattle.tables.proofs.NextReleases.{task-in-slot, releases-slots, releases-there}
-use Rattle.tables.proofs.Walk.{WalkAt, released-in-cycle, walk-begins, all-past-started, walk-done, walk-stuck, walk-starts}
+use Rattle.tables.proofs.Walk.{WalkAt, released-in-cycle, walk-begins, walk-done, walk-all, walk-left, walk-stuck, walk-starts}
 use Rattle.writing.specs.Writing.{record-put, behind-tasks}
 use Rattle.writing.proofs.Puts.{put-none}
 use Rattle.rebuilding.specs.Rebuilt.{TimetableBehind, entries-put, CanPut}
@@ -51,7 +51,7 @@ one-behind {bytes} {s} {h} {from} {other-from} {τ} {σ} b c =
     ap (λ (i : Timed). i .entries) (gives-in one other (sym e ∙ f))
 
 -- the starts so far are put, and the walk stands behind them
-pub record PutTo (bytes : List ℕ) (s : TaskSet) (h : ℕ) (many slack old out next releases offsets : List ℕ) (idle free at : ℕ) : Type 0 where
+pub record PutTo (bytes : List ℕ) (s : TaskSet) (h : ℕ) (many slack old out next releases offsets : List ℕ) (idle free at j : ℕ) : Type 0 where
   pub from : Offsets
   pub entries : List Entry
   pub starts : List Entry
@@ -59,6 +59,7 @@ pub record PutTo (bytes : List ℕ) (s : TaskSet) (h : ℕ) (many slack old out 
   pub behind : TimetableBehind bytes s h from entries
   pub stand : Stand bytes (tasks-of s) (behind .tables) before
   pub walk : WalkAt bytes (tasks-of s) (behind .tables) h (s .n) many slack starts next releases free idle offsets
+  pub counted : j ≡ length starts
   pub slots : length (s .tasks) ≡ 16
   pub room : behind-tasks (s .n) + length entries * size SL ≤ length old
   pub place : at ≡ behind-tasks (s .n) + length starts * size SL
@@ -91,7 +92,7 @@ module _ (bytes : List ℕ) (s : TaskSet) (h : ℕ) (from : Offsets) (old : List
   -- before the first start nothing is put
   pub put-begins : Bytes bytes → (many slack releases : List ℕ) (at : ℕ) → many ≡ map (jobs h) (s .tasks) → SlackOf s slack →
       releases ≡ releases-of s zeros → at ≡ behind-tasks (s .n) →
-      PutTo bytes s h many slack old old zeros releases (from .inversions) (from .idle) 0 at
+      PutTo bytes s h many slack old old zeros releases (from .inversions) (from .idle) 0 at 0
   put-begins are-bytes many slack releases at jobs-are slack-is releases-are at-is =
       let b = can .behind in
       let X : Tables = b .tables in
@@ -110,6 +111,7 @@ module _ (bytes : List ℕ) (s : TaskSet) (h : ℕ) (from : Offsets) (old : List
             (walk-begins stands releases (fits s its-good refl enough jobs-are slack-is)
             (ap length releases-are ∙ releases-slots s zeros (b .few) enough)
             (λ i l. ap (λ (x : List ℕ). slot x i) releases-are ∙ releases-there s zeros (b .few) enough i l));
+        counted = refl;
         slots = slots;
         room = can .room;
         place = omega arith;
@@ -117,7 +119,7 @@ module _ (bytes : List ℕ) (s : TaskSet) (h : ℕ) (from : Offsets) (old : List
       }
 
 -- a start, and how putting goes on
-pub record PutsNext (bytes : List ℕ) (s : TaskSet) (h : ℕ) (many slack old out next releases offsets : List ℕ) (at : ℕ) (f : Found) : Type 0 where
+pub record PutsNext (bytes : List ℕ) (s : TaskSet) (h : ℕ) (many slack old out next releases offsets : List ℕ) (at j : ℕ) (f : Found) : Type 0 where
   pub a-task : f .task < s .n
   pub one-more : getD next (f .task) 0 + 1 ≤ limits .ticks
   pub next-release : getD releases (f .task) 0 + getD (s .tasks) (f .task) zero-task .period ≤ 131070
@@ -126,53 +128,46 @@ pub record PutsNext (bytes : List ℕ) (s : TaskSet) (h : ℕ) (many slack old o
   pub goes-on : PutTo bytes s h many slack old (record-put out at (record-of SL (of-entry (record { task = f .task; start = f .start }))))
       (set next (f .task) (getD next (f .task) 0 + 1))
       (set releases (f .task) (getD releases (f .task) 0 + getD (s .tasks) (f .task) zero-task .period))
-      (set offsets (f .task) (f .inversion)) (f .idle) (f .start + getD (s .tasks) (f .task) zero-task .time) (at + size SL)
+      (set offsets (f .task) (f .inversion)) (f .idle) (f .start + getD (s .tasks) (f .task) zero-task .time) (at + size SL) (j + 1)
 
-module _ {bytes : List ℕ} {s : TaskSet} {h : ℕ} {many slack old out next releases offsets : List ℕ} {idle free at : ℕ}
-    (p : PutTo bytes s h many slack old out next releases offsets idle free at) where
+module _ {bytes : List ℕ} {s : TaskSet} {h : ℕ} {many slack old out next releases offsets : List ℕ} {idle free at j : ℕ}
+    (p : PutTo bytes s h many slack old out next releases offsets idle free at j) where
   -- the tasks of the set
   abbrev ts : List Task
   ts = tasks-of s
 
-  -- all jobs have started exactly where no next release is in the cycle
-  started : all-started h ts next ≡ none-before (s .n) h releases
-  started = sym (all-past-started (p .walk .fits))
-
-  -- no next release is in the cycle: all entries are put
-  pub put-ends : true ≡ none-before (s .n) h releases → {from : Offsets} (τ : List Entry) → TimetableBehind bytes s h from τ →
-      out ≡ entries-put old (s .n) τ
-  put-ends e τ b =
-      let done = walk-done (p .stand) (p .walk) (started ∙ sym e) in
+  -- as many starts as a cycle has jobs: all entries are put
+  pub put-ends : all-jobs h ts ≤ j → {from : Offsets} (τ : List Entry) → TimetableBehind bytes s h from τ → out ≡ entries-put old (s .n) τ
+  put-ends enough τ b =
+      let done = walk-done (p .stand) (p .walk) (walk-all (p .stand) (p .walk) (omega (arith, p .counted))) in
       let same : p .starts ≡ p .entries =
       gives-in (p .starts) (p .entries) (sym (done .0) ∙ replayed ts (p .behind .tables) (p .entries) (p .behind .judged)) in
       p .put ∙ ap (entries-put old (s .n)) (same ∙ one-behind (p .behind) b)
 
-  module _ (left : false ≡ none-before (s .n) h releases) where
+  module _ (fewer : j < all-jobs h ts) where
+    -- fewer: a job is left
+    left-here : all-started h ts next ≡ false
+    left-here = walk-left (p .stand) (p .walk) (omega (arith, p .counted))
+
     -- the walk is never stuck
     pub never-stuck : (number : ℕ) →
         Stuck number ≡ next-case ts bytes next offsets (next-start (setting ts) (lent bytes ts) next free offsets idle) → ⊥
     never-stuck number e =
-        let late = walk-stuck (p .stand) (p .walk) (started ∙ sym left) number e in
+        let late = walk-stuck (p .stand) (p .walk) left-here number e in
         let no = sym (replayed ts (p .behind .tables) (p .entries) (p .behind .judged)) ∙ late in
         clash (cc)
 
     -- the next start is put behind those before it
     pub puts-next : (f : Found) → Starts f ≡ next-case ts bytes next offsets (next-start (setting ts) (lent bytes ts) next free offsets idle) →
-        PutsNext bytes s h many slack old out next releases offsets at f
+        PutsNext bytes s h many slack old out next releases offsets at j f
     puts-next f e =
-        let on = walk-starts (p .stand) (p .walk) (started ∙ sym left) f e in
+        let on = walk-starts (p .stand) (p .walk) left-here f e in
         let start : Entry = record { task = f .task; start = f .start } in
         let here : getD (s .tasks) (f .task) zero-task ≡ task ts (f .task) =
         sym (task-in-slot s (f .task) zero-task (omega (arith, p .behind .few, p .slots)) (on .a-task)) in
         let more : length (p .starts ++ (start ∷ [])) ≡ length (p .starts) + 1 = length-append (p .starts) (start ∷ []) in
         let few : length (p .starts) + 1 ≤ length (p .entries) =
-        omega (
-          arith,
-          more,
-          on .goes-on .replays .starts-left,
-          as-many-entries bytes s h (p .from) (p .entries) (p .behind),
-          ap (λ (k : ℕ). all-jobs k ts) (p .behind .cycle),
-        ) in
+        omega (arith, p .counted, as-many-entries bytes s h (p .from) (p .entries) (p .behind)) in
         let fits : at + size SL ≤ length old = omega (arith, p .place, p .room) in
         record {
           a-task = on .a-task;
@@ -188,6 +183,7 @@ module _ {bytes : List ℕ} {s : TaskSet} {h : ℕ} {many slack old out next rel
             behind = p .behind;
             stand = p .stand;
             walk = rw here (on .goes-on);
+            counted = omega (arith, p .counted, more);
             slots = p .slots;
             room = p .room;
             place = omega (arith, p .place, more);

@@ -11,12 +11,14 @@ use rules::TaskSet;
 ghost use mathlib.Core.Path.{_≡_};
 ghost use mathlib.Core.List.{List};
 ghost use Rattle.rules.specs.declared.Entry as book-entry;
+ghost use Rattle.rules.specs.Tasks.{all-jobs};
 ghost use Rattle.rules.specs.Operations.{rebuild as rebuilds, rebuild-output};
+ghost use Rattle.tables.specs.Releases.{tasks-of};
 ghost use Rattle.rebuilding.specs.Rebuilt.{TimetableBehind, entries-put, CanPut};
 
 // The entries of the rebuilt timetable, one behind the other behind the tasks.
-fn put_entries(image: &[u8], s: TaskSet, h: u32, first: Offsets, out: &mut [u8])
-    requires { ⌜ CanPut (now image) s h first (now out) ⌝ }
+fn put_entries(image: &[u8], s: TaskSet, h: u32, first: Offsets, starts: usize, out: &mut [u8])
+    requires { ⌜ CanPut (now image) s h first (now out) × (starts ≡ all-jobs h (tasks-of s)) ⌝ }
     ensures { λ _. ⌜ ((τ : List book-entry.Entry) → TimetableBehind (now (image .entry)) s h first τ →
         now (out .exit) ≡ entries-put (now (out .entry)) (s .n) τ) ⌝ }
 {
@@ -29,12 +31,14 @@ fn put_entries(image: &[u8], s: TaskSet, h: u32, first: Offsets, out: &mut [u8])
     let mut idle = first.idle;
     let mut free: u32 = 0;
     let mut at = records::first_record(n);
+    let mut j: usize = 0;
     'starts: loop {
-        if tables::all_started(n, h, &release) {
+        if starts <= j {
             break 'starts;
         }
         match decision::next_start(
             image,
+            true,
             n,
             h,
             &jobs,
@@ -65,6 +69,7 @@ fn put_entries(image: &[u8], s: TaskSet, h: u32, first: Offsets, out: &mut [u8])
                 release[i] += t.period;
                 free = f.start + t.time;
                 at += ROWS[SL].body + 2;
+                j += 1;
             }
         }
     }
@@ -92,7 +97,7 @@ pub fn rebuild(image: &[u8], out: &mut [u8]) -> MakeAnswer
         });
     }
     writing::put_set(out, 1, s);
-    put_entries(image, s, t.hyperperiod, t.first, out);
+    put_entries(image, s, t.hyperperiod, t.first, starts, out);
     let before = n + 1 + starts;
     writing::put_end(out, end, before as u32);
     MakeAnswer::Made(length)

@@ -32,24 +32,24 @@ module _ {slots : List Task} {n i before : ℕ} (f : FaultsFrom slots n i before
   unfolding FirstFault
   faults-end l = sym (f .same ∙ rw (none-left slots n i l))
 
-  module _ (l : i < n) (kept : Bool) (is : kept ≡ keeps-its-rule (slot slots i)) where
+  module _ (l : i < n) (t : Task) (here : t ≡ slot slots i) (kept : Bool) (is : kept ≡ keeps-its-rule t) where
     -- a task that breaks its own rule
     pub own-fault : not kept ≡ true → FirstFault (tasks-fault 1 0 (take n slots)) (refusal 6 (i + 1))
     unfolding FirstFault
-    own-fault t = sym (f .same ∙ rw (one-off slots n i l (f .room), ← is, not-true kept t, add-one))
+    own-fault b = sym (f .same ∙ rw (one-off slots n i (f .room) t l here, ← is, not-true kept b, add-one))
 
     -- a task whose period is below the one before
-    pub period-fault : not kept ≡ false → slot slots i .period < before → FirstFault (tasks-fault 1 0 (take n slots)) (refusal 7 (i + 1))
+    pub period-fault : not kept ≡ false → t .period < before → FirstFault (tasks-fault 1 0 (take n slots)) (refusal 7 (i + 1))
     unfolding FirstFault
-    period-fault t b =
-        sym (f .same ∙ rw (one-off slots n i l (f .room), ← is, not-false kept t, lt-leb before (slot slots i .period) b, add-one))
+    period-fault b below =
+        sym (f .same ∙ rw (one-off slots n i (f .room) t l here, ← is, not-false kept b, lt-leb before (t .period) below, add-one))
 
     -- a task without a fault is passed
-    pub faults-on : not kept ≡ false → before ≤ slot slots i .period → FaultsFrom slots n (i + 1) (slot slots i .period)
-    faults-on t b = record {
+    pub faults-on : not kept ≡ false → before ≤ t .period → FaultsFrom slots n (i + 1) (t .period)
+    faults-on b rises = record {
       place = omega arith;
       room = f .room;
-      same = f .same ∙ rw (one-off slots n i l (f .room), ← is, not-false kept t, le-leb before (slot slots i .period) b, add-one);
+      same = f .same ∙ rw (one-off slots n i (f .room) t l here, ← is, not-false kept b, le-leb before (t .period) rises, add-one);
     }
 
 module _ (o : Option Refusal) (r : Refusal) (f : FirstFault o r) where

@@ -1,12 +1,12 @@
 -- The least common multiple of two numbers, a number of ticks up to the limit, and its product. Assumes nothing.
 use mathlib.Core.Path.{_≡_, sym, _∙_, ap}
-use Prim.Native.Nat.{ℕ, suc, _*_, _/_, _%_, _≤_, _<_}
+use Prim.Native.Nat.{ℕ, suc, _*_, _/_, _%_, _≤_, _<_, _∣_}
 use native.Mathlib.Omega.{arith}
-use native.Mathlib.Nat.{dvd-refl, le-of-dvd, dvd-antisymm, dvd-of-mod-eq-zero, div-le-self, mul-le-mul}
+use native.Mathlib.Nat.{dvd-refl, one-dvd, le-of-dvd, dvd-antisymm, mod-eq-of-lt, div-le-self, mul-le-mul}
 use borrow.Author.Tests.{le-leb, lt-leb}
 use Rattle.rules.specs.Tasks.{limits, gcd, lcm}
-use Rattle.rules.proofs.Cases.{by-le}
-use Rattle.rules.proofs.Hyperperiod.{lcm-left, lcm-right, lcm-least, lcm-positive}
+use Rattle.rules.proofs.Cases.{by-le, by-eq}
+use Rattle.rules.proofs.Hyperperiod.{gcd-step, lcm-left, lcm-right, lcm-least, lcm-positive}
 use Rattle.sets.specs.Sets.{capped}
 
 -- a number up to the limit is told as it is
@@ -30,10 +30,14 @@ pub told-above : (l h : ℕ) → l ≤ h → limits .ticks < capped l → capped
 told-above l h le above = let a = told-long l above in sym (capped-above l a) ∙ capped-above h (omega arith)
 
 -- the least common multiple of a number and its multiple up to the limit
-pub lcm-of-multiple : (a b : ℕ) → 0 < a → b ≤ limits .ticks → b % a ≡ 0 → b ≡ capped (lcm a b)
-lcm-of-multiple a b p l e =
-    let is : lcm a b ≡ b = dvd-antisymm (lcm-least a b p b (dvd-of-mod-eq-zero a e) (dvd-refl b)) (lcm-right a b p) in
+pub lcm-of-multiple : (a b : ℕ) → 0 < a → b ≤ limits .ticks → a ∣ b → b ≡ capped (lcm a b)
+lcm-of-multiple a b p l d =
+    let is : lcm a b ≡ b = dvd-antisymm (lcm-least a b p b d (dvd-refl b)) (lcm-right a b p) in
     sym is ∙ capped-within (lcm a b) (omega arith)
+
+-- the least common multiple of a number and 1
+pub lcm-of-one : (a : ℕ) → 0 < a → a ≡ lcm a 1
+lcm-of-one a p = dvd-antisymm (lcm-left a 1 p) (lcm-least a 1 p a (dvd-refl a) (one-dvd a))
 
 -- the least common multiple is not below either number
 pub lcm-above : (a b : ℕ) → 0 < a → 0 < b → (a ≤ lcm a b) × (b ≤ lcm a b)
@@ -43,6 +47,15 @@ lcm-above a b p q = (le-of-dvd (lcm-positive a b p q) (lcm-left a b p), le-of-dv
 pub product-fits : (t g h : ℕ) → t ≤ limits .ticks → h ≤ limits .ticks → t / g * h < 4294967296
 product-fits t g h a b = omega (arith, mul-le-mul {n₁ = t / g} {m₁ = h} {n₂ = 65535} {m₂ = 65535} (omega (arith, div-le-self t g)) b)
 
--- a product by the greatest common divisor is the least common multiple
-pub by-divisor : (t h g : ℕ) → g ≡ gcd (suc h) t h → t / g * h ≡ lcm t h
-by-divisor t h g e = ap (λ (d : ℕ). t / d * h) e
+-- a number and the remainder by it have the greatest common divisor of the two numbers
+divisor-of-remainder : (t h : ℕ) → 0 < t → 0 < h → gcd (suc (h % t)) t (h % t) ≡ gcd (suc h) t h
+divisor-of-remainder t h q p =
+    by-le t h
+    (λ l. by-eq t h
+    (λ e. rw e (gcd-step h h p))
+    (λ e. let less : t % h ≡ t = mod-eq-of-lt (omega arith) in gcd-step h t q ∙ (rw less at (gcd-step t h p))))
+    (λ m. let less : h % t ≡ h = mod-eq-of-lt m in rw less)
+
+-- a product by the greatest common divisor with the remainder is the least common multiple
+pub by-divisor : (t h g : ℕ) → 0 < t → 0 < h → g ≡ gcd (suc (h % t)) t (h % t) → t / g * h ≡ lcm t h
+by-divisor t h g p q e = ap (λ (d : ℕ). t / d * h) (e ∙ divisor-of-remainder t h p q)

@@ -7,9 +7,10 @@ use rules::Task;
 use rules::TaskSet;
 ghost use mathlib.Core.Path.{_≡_};
 ghost use mathlib.Core.Option.{none};
-ghost use Prim.Native.Nat.{suc, _≤_, _<_};
-ghost use lib.ListN.{take};
+ghost use Prim.Native.Nat.{suc, _+_, _≤_, _<_};
+ghost use lib.ListN.{length};
 ghost use Rattle.rules.specs.Tasks as book;
+ghost use Rattle.numbers.specs.Numbers.{tasks-from, set-from};
 ghost use Rattle.sets.specs.Sets.{capped, FirstFault};
 
 // A number as a wider one.
@@ -57,11 +58,10 @@ pub fn keeps_its_rule(t: Task) -> bool
 }
 
 // What is wrong with the first n tasks, one after the other, each by 6 and then by 7; number 0 where nothing is.
-fn tasks_fault(s: TaskSet) -> Refusal
-    requires { ⌜ s .n ≤ 16 ⌝ }
-    ensures { λ r. ⌜ FirstFault (book.tasks-fault 1 0 (take (s .n) (s .tasks))) r ⌝ }
+fn tasks_fault(n: usize, numbers: &[u32], at: usize) -> Refusal
+    requires { ⌜ (n ≤ 16) × (at + 64 ≤ length (now numbers)) ⌝ }
+    ensures { λ r. ⌜ FirstFault (book.tasks-fault 1 0 (tasks-from n (now (numbers .entry)) at)) r ⌝ }
 {
-    let n = s.n as usize;
     let mut i: usize = 0;
     let mut before: u32 = 0;
     'tasks: loop {
@@ -71,7 +71,7 @@ fn tasks_fault(s: TaskSet) -> Refusal
                 place: 0,
             };
         }
-        let t = s.tasks[i];
+        let t = numbers::task_from(numbers, at + 4 * i);
         if !keeps_its_rule(t) {
             break 'tasks Refusal {
                 number: 6,
@@ -112,70 +112,88 @@ fn common_multiple(t: u32, h: u32) -> u32
     if 65535 < t {
         return 65536;
     }
-    if h % t == 0 {
+    let r = h % t;
+    if r == 0 {
         return h;
     }
-    let m = t / common_divisor(t, h) * h;
+    let m = t / common_divisor(t, r) * h;
     if 65535 < m {
         return 65536;
     }
     m
 }
 
-// The hyperperiod of the first n tasks, or one more than the limit where it is above it.
-fn hyperperiod(s: TaskSet) -> u32
-    requires { ⌜ (s .n ≤ 16) × (book.tasks-fault 1 0 (take (s .n) (s .tasks)) ≡ none) ⌝ }
-    ensures { λ r. ⌜ r ≡ capped (book.hyperperiod (take (s .n) (s .tasks))) ⌝ }
+// The hyperperiod of the first n tasks, or one more than the limit where it is above it. Periods never fall, so tasks of one period stand together: it is
+// looked at once.
+fn hyperperiod(n: usize, numbers: &[u32], at: usize) -> u32
+    requires { ⌜ (1 ≤ n) × (n ≤ 16) × (at + 64 ≤ length (now numbers)) × (book.tasks-fault 1 0 (tasks-from n (now numbers) at) ≡ none) ⌝ }
+    ensures { λ r. ⌜ r ≡ capped (book.hyperperiod (tasks-from n (now (numbers .entry)) at)) ⌝ }
 {
-    let mut i = s.n as usize;
-    let mut h: u32 = 1;
+    let mut i = n - 1;
+    let mut after = numbers::task_from(numbers, at + 4 * i).period;
+    if 65535 < after {
+        return 65536;
+    }
+    let mut h = after;
     while 0 < i {
         i -= 1;
-        let t = s.tasks[i];
-        h = common_multiple(t.period, h);
-        if 65535 < h {
-            return h;
+        let t = numbers::task_from(numbers, at + 4 * i);
+        if t.period != after {
+            h = common_multiple(t.period, h);
+            if 65535 < h {
+                return h;
+            }
+            after = t.period;
         }
     }
     h
 }
 
-// The jobs of the first n tasks together, in a cycle of h ticks.
-fn all_jobs(h: u32, s: TaskSet) -> u32
-    requires { ⌜ (s .n ≤ 16) × (h ≤ 65535) ⌝ }
-    ensures { λ r. ⌜ r ≡ book.all-jobs h (take (s .n) (s .tasks)) ⌝ }
+// The jobs of the first n tasks together, in a cycle of h ticks; divided once for tasks of one period that stand together.
+fn all_jobs(h: u32, n: usize, numbers: &[u32], at: usize) -> u32
+    requires { ⌜ (n ≤ 16) × (h ≤ 65535) × (at + 64 ≤ length (now numbers)) ⌝ }
+    ensures { λ r. ⌜ r ≡ book.all-jobs h (tasks-from n (now (numbers .entry)) at) ⌝ }
 {
-    let mut i = s.n as usize;
+    let mut i = n;
     let mut sum: u32 = 0;
+    let mut after: u32 = 0;
+    let mut many: u32 = 0;
     while 0 < i {
         i -= 1;
-        sum += jobs(h, s.tasks[i]);
+        let t = numbers::task_from(numbers, at + 4 * i);
+        if t.period != after {
+            many = jobs(h, t);
+            after = t.period;
+        }
+        sum += many;
     }
     sum
 }
 
-// A set in memory judged: its hyperperiod and its jobs a cycle, or the first refusal of 5 to 9.
-pub fn judge_set(s: TaskSet) -> SetAnswer
-    ensures { λ r. ⌜ r ≡ book.judge-set s ⌝ }
+// The set that the 64 numbers from a place on are, judged: its hyperperiod and its jobs a cycle, or the first refusal of 5 to 9.
+pub fn judge_numbers(n: u32, numbers: &[u32], at: usize) -> SetAnswer
+    requires { ⌜ at + 64 ≤ length (now numbers) ⌝ }
+    ensures { λ r. ⌜ r ≡ book.judge-set (set-from n (now (numbers .entry)) at) ⌝ }
 {
-    if s.n < 1 || 16 < s.n {
+    if n < 1 || 16 < n {
         return SetAnswer::Refused(Refusal {
             number: 5,
             place: 0,
         });
     }
-    let fault = tasks_fault(s);
+    let many = n as usize;
+    let fault = tasks_fault(many, numbers, at);
     if fault.number != 0 {
         return SetAnswer::Refused(fault);
     }
-    let h = hyperperiod(s);
+    let h = hyperperiod(many, numbers, at);
     if 65535 < h {
         return SetAnswer::Refused(Refusal {
             number: 8,
             place: 0,
         });
     }
-    let jobs = all_jobs(h, s);
+    let jobs = all_jobs(h, many, numbers, at);
     if 4096 < jobs {
         return SetAnswer::Refused(Refusal {
             number: 9,
@@ -186,4 +204,13 @@ pub fn judge_set(s: TaskSet) -> SetAnswer
         hyperperiod: h,
         jobs,
     })
+}
+
+// A set in memory judged.
+pub fn judge_set(s: TaskSet) -> SetAnswer
+    ensures { λ r. ⌜ r ≡ book.judge-set s ⌝ }
+{
+    let mut numbers = [0u32; 64];
+    numbers::put_tasks(&mut numbers, 0, s);
+    judge_numbers(s.n, &numbers, 0)
 }

@@ -19,7 +19,7 @@ use Rattle.rules.specs.declared.Refusal.{Refusal}
 use Rattle.rules.specs.declared.SetAnswer.the-variants as set-case
 use Rattle.rules.specs.declared.CheckAnswer.the-variants as check-case
 use Rattle.rules.specs.Refusals.{Judged, gives, refuses, refusal}
-use Rattle.rules.specs.Tasks.{limits, jobs, hyperperiod, GoodSet, few-enough, set-fault, memory-fault, judge-set}
+use Rattle.rules.specs.Tasks.{limits, jobs, all-jobs, hyperperiod, GoodSet, few-enough, set-fault, memory-fault, judge-set}
 use Rattle.rules.specs.Setting.{Tables}
 use Rattle.rules.specs.Judging.{records-fault, judge-tables}
 use Rattle.rules.specs.Marks.{EN, size}
@@ -160,6 +160,10 @@ module _ {bytes : List ℕ} {s : TaskSet} {f : Figures} {l : Layout} (b : Bytes 
   cycle-is : f .hyperperiod ≡ hyperperiod (tasks-of s)
   cycle-is = set-good (tasks-of s) (f .hyperperiod) good .1
 
+  -- its jobs a cycle are those counted
+  pub jobs-counted : f .jobs ≡ all-jobs (f .hyperperiod) (tasks-of s)
+  jobs-counted = good-exactly s (set-case.Good f) (st .good) f .0 refl .counted
+
   -- C ≤ D for each of its tasks
   pub its-times : InTime s
   its-times = in-time s good refl set-room
@@ -250,7 +254,7 @@ module _ {bytes : List ℕ} {s : TaskSet} {f : Figures} {l : Layout} (b : Bytes 
                     read = read;
                     judged = e;
                     cycle = cycle-is;
-                    starts = good-exactly s (set-case.Good f) (st .good) f .0 refl .counted;
+                    starts = jobs-counted;
                     offsets = first-is;
                   };
                 })

@@ -39,11 +39,11 @@ use Rattle.decision.specs.declared.Found.{Found}
 use Rattle.decision.specs.declared.NextStart.{NextStart as Answer}
 use Rattle.decision.specs.declared.NextStart.the-variants.{Starts, Stuck}
 use Rattle.decision.specs.Next.{inverts, next-case}
-use Rattle.tables.specs.Releases.{tasks-of, releases-of, ReleasesFit, none-before}
+use Rattle.tables.specs.Releases.{tasks-of, releases-of, ReleasesFit}
 use Rattle.tables.specs.Replayed.{refusal-in, RefusalTold, wasted-after, behind-idles, Ended, unused-at, CanReplay}
 use Rattle.tables.proofs.Stores.{start-stores}
 use Rattle.tables.proofs.NextReleases.{task-in-slot, releases-slots, releases-there}
-use Rattle.tables.proofs.Walk.{WalkAt, WalkGoesOn, walk-begins, walk-cycle, walk-starts, released-in-cycle, all-past-started}
+use Rattle.tables.proofs.Walk.{WalkAt, WalkGoesOn, walk-begins, walk-cycle, walk-all, walk-left, walk-starts, released-in-cycle}
 
 -- the loop's variables after some starts
 pub record ReplayAt (bytes : List ℕ) (s : TaskSet) (h : ℕ) (many slack : List ℕ) (idles : ℕ) (first : OffsetsOf) (next releases offsets : List ℕ)
@@ -63,8 +63,6 @@ pub record ReplayGoesOn (bytes : List ℕ) (s : TaskSet) (h : ℕ) (many slack :
   pub one-more : getD next (f .task) 0 + 1 ≤ limits .ticks
   pub next-release : getD releases (f .task) 0 + getD (s .tasks) (f .task) zero-task .period ≤ 131070
   pub ends-in-cycle : f .start + getD (s .tasks) (f .task) zero-task .time ≤ limits .ticks
-  pub few-starts : starts < all-jobs h (tasks-of s)
-  pub few-jobs : all-jobs h (tasks-of s) ≤ limits .jobs
   pub goes-on : ReplayAt bytes s h many slack idles first (set next (f .task) (getD next (f .task) 0 + 1))
       (set releases (f .task) (getD releases (f .task) 0 + getD (s .tasks) (f .task) zero-task .period))
       (set offsets (f .task) (f .inversion)) (f .idle) (f .start + getD (s .tasks) (f .task) zero-task .time)
@@ -158,18 +156,22 @@ module _ {bytes : List ℕ} {s : TaskSet} {h : ℕ} {many slack : List ℕ} {idl
   unfolding FirstFault
   accepted-so τ e = record { first = sym (image-told ∙ ap refusal-in e); no-place = λ z. refl }
 
-  -- whether all jobs have started is seen by the releases
-  all-seen : {b : Bool} → b ≡ none-before (s .n) h releases → all-started (hyperperiod ts) ts next ≡ b
-  all-seen e = ap (λ (c : ℕ). all-started c ts next) (sym (walk-cycle (r .stand) (r .walk))) ∙ sym (all-past-started (r .walk .fits)) ∙ sym e
+  -- whether all jobs have started is told by the count of starts
+  all-seen : {b : Bool} → all-started h ts next ≡ b → all-started (hyperperiod ts) ts next ≡ b
+  all-seen e = rw (walk-cycle (r .stand) (r .walk)) at e
 
-  module _ (seen : false ≡ none-before (s .n) h releases) where
+  module _ (fewer : starts < all-jobs h ts) where
+    -- a job is left
+    left-here : all-started h ts next ≡ false
+    left-here = walk-left (r .stand) (r .walk) (omega (arith, r .counted))
+
     -- the next start is stuck: 18 at the number of starts
     pub replay-at-late : (number : ℕ) → NextIs (Stuck number) → RefusalTold (rebuilt bytes) (refusal 18 starts)
     replay-at-late number e =
         by-next (next-start (setting ts) (lent bytes ts) next free offsets idle)
         (λ i t o q. let other : Stuck number ≡ next-case ts bytes next offsets (next-is i t o) = rw q at e in clash (cc))
         (λ m q. refused-so 17 starts
-        (judged-late (r .stand) (r .can .good) (r .walk .replays) (all-seen seen) m q ∙ rw (r .counted)))
+        (judged-late (r .stand) (r .can .good) (r .walk .replays) (all-seen left-here) m q ∙ rw (r .counted)))
 
     -- a task's own offset behind its start
     abbrev own-end : ℕ → ℕ
@@ -180,7 +182,7 @@ module _ {bytes : List ℕ} {s : TaskSet} {h : ℕ} {many slack : List ℕ} {idl
         Wastes ts X (r .started ++ (record { task = i; start = t } ∷ [])) (start-job next i)
         (wasted-after wasted (slot offsets i) (own-end i) (inverts ts next t i))
     found-wastes i t o q =
-        let left : all-started (hyperperiod ts) ts next ≡ false = all-seen seen in
+        let left : all-started (hyperperiod ts) ts next ≡ false = all-seen left-here in
         by-eq (own-end i) (slot offsets i)
         (λ u. rw (wasted-stays wasted (slot offsets i) (own-end i) (inverts ts next t i) u)
         (start-without (r .stand) (r .can .good) (r .walk .replays) (r .wastes) left i t o q u))
@@ -208,7 +210,7 @@ module _ {bytes : List ℕ} {s : TaskSet} {h : ℕ} {many slack : List ℕ} {idl
         let i : ℕ = f .task in
         let w : WalkAt bytes ts X h (s .n) many slack (r .started) next releases free idle offsets = r .walk in
         let g : WalkGoesOn bytes ts X h (s .n) many slack (r .started) next releases offsets f =
-        walk-starts (r .stand) w (sym (all-past-started (w .fits)) ∙ sym seen) f e in
+        walk-starts (r .stand) w left-here f e in
         let same : task ts i ≡ getD (s .tasks) i zero-task =
         task-in-slot s i zero-task (omega (arith, w .fits .set .few, r .slots)) (g .a-task) in
         let stored : set next i (getD next i 0 + 1) ≡ start-job next i =
@@ -219,14 +221,6 @@ module _ {bytes : List ℕ} {s : TaskSet} {h : ℕ} {many slack : List ℕ} {idl
           one-more = g .one-more;
           next-release = rw (← same) (g .next-release);
           ends-in-cycle = rw (← same) (omega (arith, g .ends-in-cycle, w .fits .set .good .short));
-          few-starts = omega (
-            arith,
-            r .counted,
-            one-more-start,
-            g .goes-on .replays .starts-left,
-            ap (λ (c : ℕ). all-jobs c ts) (walk-cycle (r .stand) w),
-          );
-          few-jobs = w .fits .set .good .few-jobs;
           goes-on = record {
             can = r .can;
             stand = r .stand;
@@ -242,8 +236,12 @@ module _ {bytes : List ℕ} {s : TaskSet} {h : ℕ} {many slack : List ℕ} {idl
   inversions-behind : behind-idles (first .idle) idles ≡ first-inversion-offset ts X
   inversions-behind = omega (arith, ap (λ (o : OffsetsOf). o .idle) (r .can .first-is), r .can .idle-records)
 
-  module _ (seen : true ≡ none-before (s .n) h releases) where
-    -- all jobs have started: where the offsets lie
+  module _ (enough : all-jobs h ts ≤ starts) where
+    -- all jobs have started
+    all-here : all-started (hyperperiod ts) ts next ≡ true
+    all-here = all-seen (walk-all (r .stand) (r .walk) (omega (arith, r .counted)))
+
+    -- where the offsets lie then
     pub replay-at-ends : Ended (s .n) idles (first .idle) idle wasted
     replay-at-ends =
         let first-idle : first .idle ≡ tables-offset ts = ap (λ (o : OffsetsOf). o .idle) (r .can .first-is) in
@@ -253,7 +251,7 @@ module _ {bytes : List ℕ} {s : TaskSet} {h : ℕ} {many slack : List ℕ} {idl
           idle-behind = omega (arith, first-idle, r .walk .replays .idle-offset);
           wasted-behind = λ used some-wasted.
               let (q, bound, there, judged) =
-              judged-wasted (r .stand) (r .can .good) (r .walk .replays) (r .wastes) (all-seen seen) (omega (arith, inversions-behind))
+              judged-wasted (r .stand) (r .can .good) (r .walk .replays) (r .wastes) all-here (omega (arith, inversions-behind))
               (λ u. omega arith) in
               omega (arith, inversions-behind, there);
         }
@@ -271,9 +269,9 @@ module _ {bytes : List ℕ} {s : TaskSet} {h : ℕ} {many slack : List ℕ} {idl
         (λ used. rw (le-ltb idle behind used)
         (by-eq wasted last-offset
         (λ u. rw (le-ltb wasted last-offset (omega arith))
-        (accepted-so (r .started) (judged-accepted st good R (r .wastes) (all-seen seen) (omega (arith, inversions-behind)) u)))
+        (accepted-so (r .started) (judged-accepted st good R (r .wastes) all-here (omega (arith, inversions-behind)) u)))
         (λ u.
-        let (q, bound, there, judged) = judged-wasted st good R (r .wastes) (all-seen seen) (omega (arith, inversions-behind)) u in
+        let (q, bound, there, judged) = judged-wasted st good R (r .wastes) all-here (omega (arith, inversions-behind)) u in
         let low : wasted < last-offset = omega (arith, there, st .short) in
         let place : s .n + 1 + idles + (wasted - behind) / size PV ≡ suc (length ts) + length (X .idles) + q =
         omega (
@@ -284,7 +282,7 @@ module _ {bytes : List ℕ} {s : TaskSet} {h : ℕ} {many slack : List ℕ} {idl
         ) in
         rw (lt-ltb wasted last-offset low, place) (refused-so 18 (suc (length ts) + length (X .idles) + q) judged))))
         (λ unused.
-        let (q, bound, there, judged) = judged-unused st good R (r .wastes) (all-seen seen) (omega (arith, inversions-behind)) in
+        let (q, bound, there, judged) = judged-unused st good R (r .wastes) all-here (omega (arith, inversions-behind)) in
         let place : s .n + 1 + (idle - first .idle) / size ID ≡ suc (length ts) + q =
         omega (arith, quotient idle (first .idle) q (size ID) (omega arith) (omega (arith, first-idle, there)), r .can .fits .n-tasks) in
         rw (lt-ltb idle behind unused, place) (refused-so 18 (suc (length ts) + q) judged))

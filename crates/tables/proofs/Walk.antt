@@ -18,11 +18,13 @@ use Rattle.rules.specs.Tasks.{limits, task, release, jobs, all-jobs, hyperperio
 use Rattle.rules.specs.Setting.{Tables}
 use Rattle.rules.specs.Priority.{slot, start-job, all-started, setting}
 use Rattle.rules.specs.Decision.{replay}
-use Rattle.rules.specs.Offsets.{lent, past-own, next-is, next-start, inversion-offsets, first-offsets}
+use Rattle.rules.specs.Offsets.{lent, past-own, next-is, next-start, tasks-readable, inversion-offsets, first-offsets}
 use Rattle.rules.specs.Dispatcher.{zeros}
-use Rattle.rules.proofs.Cases.{by-le, by-eq, clash}
+use Rattle.rules.proofs.Cases.{by-bool, by-le, by-eq, clash}
 use Rattle.rules.proofs.GoodSets.{set-good, good-rules, good-positive}
 use Rattle.rules.proofs.PriorityLaws.{slot-empty, slot-start-same, slot-start-other, due-in-cycle}
+use Rattle.rules.proofs.ValidTimetables.{jobs-left}
+use Rattle.rules.proofs.Shown.{from, shown-readable}
 use Rattle.rules.proofs.ShownAt.{Stand}
 use Rattle.rules.proofs.StuckStarts.{by-next}
 use Rattle.rules.proofs.OffsetReplay.{Replays, StartsNext, zeros-same, replay-begins, possible, replay-starts, replay-stuck, replay-done, done-length}
@@ -72,6 +74,12 @@ all-past-started {ts} {h} {n} {many} {slack} {next} {releases} fits =
     (none-before-left h ts next releases
     (λ i l k. rw (fits .releases-there i (as-task i l)) (released-in-cycle (fits .set .good) i (slot next i) k))
     (λ i l k. by-le h (slot releases i) (λ past. past) (λ before. absurd (omega (arith, left-before fits i (as-task i l) before)))))
+
+-- where no job is left all have started
+none-left-started : (h : ℕ) (ts : List Task) (x : List ℕ) → jobs-left h ts x ≡ 0 → all-started h ts x ≡ true
+none-left-started h [] x e = refl
+none-left-started h (t ∷ ts) x e =
+    rw (le-ltb (head₀ x) (jobs h t) (omega arith), all-started) (none-left-started h ts (tail₀ x) (omega arith))
 
 -- there is an offset for each task
 offsets-counted : (ts : List Task) (X : Tables) (i many : ℕ) → length (inversion-offsets ts X i many) ≡ many
@@ -127,6 +135,23 @@ module _ {bytes : List ℕ} {ts : List Task} {X : Tables} {before : ℕ} (st : S
     walk-done all =
         let done : all-started (hyperperiod ts) ts next ≡ true = rw walk-cycle at all in
         (replay-done st walk-good (w .replays) done, rw walk-cycle (done-length st walk-good (w .replays) done))
+
+    -- as many starts as a cycle has jobs: all have started
+    pub walk-all : all-jobs h ts ≤ length σ → all-started h ts next ≡ true
+    walk-all enough =
+        rw walk-cycle
+        (none-left-started (hyperperiod ts) ts next
+        (omega (arith, w .replays .starts-left, ap (λ (c : ℕ). all-jobs c ts) walk-cycle)))
+
+    -- fewer: a job is left
+    pub walk-left : length σ < all-jobs h ts → all-started h ts next ≡ false
+    walk-left few = by-bool (all-started h ts next) (λ all. absurd (omega (arith, walk-done all .1))) (λ left. left)
+
+    -- the offsets of all tasks can be read
+    pub walk-readable : tasks-readable (lent bytes ts) n offsets ≡ true
+    walk-readable =
+        rw (w .fits .set .n-tasks)
+        (shown-readable (lent bytes ts) (length ts) offsets (λ i. from i (slot next i) (X .inversions)) (w .replays .placed))
 
     -- the releases of next jobs, after a start
     releases-on : (i : ℕ) → i < length ts → (j : ℕ) → j < n →

@@ -15,8 +15,9 @@ use rules::Task;
 use rules::TaskSet;
 ghost use mathlib.Core.Path.{_≡_};
 ghost use Prim.Native.Nat.{_≤_};
+ghost use Rattle.rules.specs.Tasks.{all-jobs};
 ghost use Rattle.rules.specs.Operations.{rebuilt, check-tables};
-ghost use Rattle.tables.specs.Releases.{releases-of, ReleasesFit, none-before};
+ghost use Rattle.tables.specs.Releases.{tasks-of, releases-of, ReleasesFit, none-before};
 ghost use Rattle.tables.specs.Replayed.{RefusalTold, wasted-after, Ended, unused-at, CanReplay};
 ghost use Rattle.tables.specs.Judged.{SetStands, refused-with, JudgedAs};
 
@@ -96,7 +97,8 @@ fn unused(n: usize, idles: usize, first: u32, idle: u32, wasted: u32) -> Refusal
     }
 }
 
-// Replay through one cycle, left from inside with 18 at a start that would be late; then 19. Number 0 where nothing is wrong.
+// Replay through one cycle, as many starts as it has jobs, left from inside with 18 at a start that would be late; then 19. Number 0 where nothing
+// is wrong.
 fn replay_fault(
     image: &[u8],
     s: TaskSet,
@@ -105,8 +107,9 @@ fn replay_fault(
     slack: &[u32; 16],
     idles: usize,
     first: Offsets,
+    all: usize,
 ) -> Refusal
-    requires { ⌜ CanReplay (now image) s h (now jobs) (now slack) idles first ⌝ }
+    requires { ⌜ CanReplay (now image) s h (now jobs) (now slack) idles first × (all ≡ all-jobs h (tasks-of s)) ⌝ }
     ensures { λ r. ⌜ RefusalTold (rebuilt (now (image .entry))) r ⌝ }
 {
     let n = s.n as usize;
@@ -118,11 +121,12 @@ fn replay_fault(
     let mut wasted = NONE;
     let mut starts: usize = 0;
     'starts: loop {
-        if all_started(n, h, &release) {
+        if all <= starts {
             break 'starts unused(n, idles, first.idle, idle, wasted);
         }
         match decision::next_start(
             image,
+            true,
             n,
             h,
             jobs,
@@ -203,7 +207,16 @@ fn judge_records(image: &[u8], set: TaskSet, f: Figures, l: Layout) -> Tables
         return refused(fault);
     }
     let first = records::first_offsets(image, n, l.listed, l.inversions);
-    let refusal = replay_fault(image, set, h, &jobs, &slack, l.listed, first);
+    let refusal = replay_fault(
+        image,
+        set,
+        h,
+        &jobs,
+        &slack,
+        l.listed,
+        first,
+        f.jobs as usize,
+    );
     if refusal.number != 0 {
         return refused(refusal);
     }

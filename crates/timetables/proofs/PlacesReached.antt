@@ -1,5 +1,5 @@
 -- Framing's places behind the entries that a walk has passed. Assumes nothing.
-use mathlib.Core.Path.{_≡_, refl, sym, _∙_, subst}
+use mathlib.Core.Path.{_≡_, refl, sym, _∙_, ap, subst}
 use mathlib.Core.Logic.{_⊎_, inl, inr}
 use mathlib.Core.Bool.{true, false}
 use mathlib.Core.List.{List}
@@ -9,12 +9,14 @@ use Rattle.rules.specs.declared.Place.{Place}
 use Rattle.rules.specs.declared.Layout.{Layout}
 use Rattle.rules.specs.Refusals.{gives}
 use Rattle.rules.specs.Marks.{SL, row, size}
-use Rattle.rules.specs.Framing.{after-listed, frame}
+use Rattle.rules.specs.Framing.{after-listed, goes-on, frame}
 use Rattle.rules.proofs.Cases.{by-nat}
 use Rattle.images.specs.Table.{stands-at}
 use Rattle.framing.specs.SetRead.{tasks-offset}
 use Rattle.framing.specs.Frames.{Reached, BehindTasks}
-use Rattle.framing.proofs.Entries.{past-entry, entry-counted, no-entry-more, same-tasks}
+use Rattle.framing.proofs.PlaceLaws.{place-path}
+use Rattle.framing.proofs.Runs.{Apart, in-turn, past-run}
+use Rattle.framing.proofs.Entries.{entry-counted, no-entry-more, same-tasks}
 
 -- the least rank behind so many entries
 abbrev entries-rank : ℕ → ℕ
@@ -33,11 +35,6 @@ place-behind n k = record {
   inversions = 0;
 }
 
--- a place is told by its numbers
-place-path : (p q : Place) → p .index ≡ q .index → p .offset ≡ q .offset → p .rank ≡ q .rank → p .due ≡ q .due → p .tasks ≡ q .tasks →
-    p .listed ≡ q .listed → p .inversions ≡ q .inversions → p ≡ q
-place-path p q a b c d e f g = λ i. record { index = a i; offset = b i; rank = c i; due = d i; tasks = e i; listed = f i; inversions = g i }
-
 -- the next entry leads from one to the next
 next-behind : (n k : ℕ) → after-listed SL (place-behind n k) ≡ place-behind n (suc k)
 next-behind n k =
@@ -54,10 +51,13 @@ Stood bytes n k = (i : ℕ) → i < k → stands-at bytes (tasks-offset n + i * 
 
 -- so framing comes to the place behind them
 reached-behind : (bytes : List ℕ) (n k : ℕ) → Reached 1 bytes (place-behind n 0) → Stood bytes n k → Reached 1 bytes (place-behind n k)
-reached-behind bytes n zero re stood = re
-reached-behind bytes n (suc k) re stood =
-    subst (λ (p : Place). Reached 1 bytes p) (next-behind n k)
-    (past-entry (reached-behind bytes n k re (λ i l. stood i (omega arith))) (rank-low k .0) (rank-low k .1) (stood k (omega arith)))
+reached-behind bytes n k re stood =
+    let apart : Apart 1 SL (tasks-offset n) k (place-behind n) = record {
+      at = λ j. refl;
+      in-turn = λ j l. in-turn (entries-rank j) (row SL .rank) (rank-low j .0) (rank-low j .1);
+      leads = λ j l v. ap goes-on (next-behind n j);
+    } in
+    past-run SL (tasks-offset n) k (place-behind n) refl apart stood re k (omega arith)
 
 module _ (bytes : List ℕ) (p : Place) (re : Reached 1 bytes p) (b : BehindTasks bytes p) (k : ℕ) (stood : Stood bytes (p .tasks) k) where
   -- framing comes to the place behind so many entries

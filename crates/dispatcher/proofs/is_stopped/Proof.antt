@@ -1,90 +1,71 @@
--- `dispatcher::is_stopped` meets its contract: a part that is not 0 is seen, and where all the others are 0 the last one decides. Assumes nothing.
-use mathlib.Core.Path.{sym, _∙_}
-use Rattle.rules.specs.Tasks.{task}
-use Rattle.rules.proofs.Cases.{differ}
-use Rattle.dispatcher.proofs.Zeros.{not-stopped, all-but-last, fails-as, passes-as}
+-- `dispatcher::is_stopped` meets its contract. The invariant: what is left from i on is all 0 exactly where the whole is. Assumes nothing.
+use mathlib.Core.Path.{_≡_, refl, sym, _∙_, ap}
+use Prim.Native.Nat.{_-_, _≤_}
+use native.Mathlib.Omega.{arith}
+use lib.ListN.{drop, drop-of-length-le}
+use Rattle.rules.specs.Dispatcher.{all-zero}
+use Rattle.numbers.proofs.StateNumbers.{numbers-of-state}
+use Rattle.dispatcher.proofs.Zeros.{not-zero-here, zero-here}
 use borrow.Author.Needs.{needs}
 use Rattle.dispatcher.proofs.is_stopped.Statement.{statement}
 use Rattle.dispatcher.proofs.is_stopped.Tie as tie
 
-returns : tie.Need-returns
-returns c = sym (not-stopped (c .before .args .t1) (λ parts. c .if1 .taken (parts .n)))
+abbrev Inv-loop : tie.InvT-loop
+Inv-loop numbers i₀ i = (i ≤ 119) × (all-zero numbers ≡ all-zero (drop i numbers))
 
-returns-2 : tie.Need-returns-2
-returns-2 c = sym (not-stopped (c .before .before .args .t1) (λ parts. c .if2 .taken (parts .cycle)))
+abbrev μ-loop : tie.MeasureT-loop
+μ-loop numbers i₀ i = 119 - i
 
-returns-3 : tie.Need-returns-3
-returns-3 c = sym (not-stopped (c .before .before .before .args .t1) (λ parts. c .if3 .taken (parts .task)))
+loop-holds : tie.Need-loop-holds Inv-loop μ-loop
+loop-holds c = (omega arith, refl)
 
-returns-4 : tie.Need-returns-4
-returns-4 c =
-    let start = c .before .before .before .before in
-    sym (not-stopped (start .args .t1) (λ parts. c .if4 .taken (parts .job)))
+mul-if1 : tie.Need-mul-if1 Inv-loop μ-loop
+mul-if1 c = search needs
 
-returns-5 : tie.Need-returns-5
-returns-5 c =
-    let start = c .before .before .before .before .before in
-    sym (not-stopped (start .args .t1) (λ parts. c .if5 .taken (parts .start)))
+shared-slice-read-if1 : tie.Need-shared-slice-read-if1 Inv-loop μ-loop
+shared-slice-read-if1 c = search needs
 
-zero-tasks-requires : tie.Need-zero-tasks-requires
-zero-tasks-requires c κs = search needs
+returns : tie.Need-returns Inv-loop μ-loop
+returns c =
+    let at = c .before .before .before in
+    let numbers = at .before .args .numbers .now in
+    sym
+    (ap all-zero (numbers-of-state numbers (at .before .pre))
+    ∙ at .loop .inv .1
+    ∙ not-zero-here numbers (at .loop .i) (omega (arith, at .before .pre)) (c .if1 .taken))
 
-returns-6 : tie.Need-returns-6
-returns-6 c =
-    let start = c .before .before .before .before .before .before .before .before in
-    sym (not-stopped (start .args .t1) (λ parts. differ (sym (parts .tasks) ∙ fails-as _ _ (c .before .zero-tasks .ensures) (c .if6 .taken))))
+add-i : tie.Need-add-i Inv-loop μ-loop
+add-i c = search needs
 
-all-zero-requires : tie.Need-all-zero-requires
-all-zero-requires c κs = search needs
+loop-less : tie.Need-loop-less Inv-loop μ-loop
+loop-less c = search needs
 
-returns-7 : tie.Need-returns-7
-returns-7 c =
-    let start = c .before .before .before .before .before .before .before .before .before .before .before .before in
-    sym (not-stopped (start .args .t1) (λ parts. differ (sym (parts .next) ∙ fails-as _ _ (c .before .all-zero .ensures) (c .if7 .taken))))
+loop-again : tie.Need-loop-again Inv-loop μ-loop
+loop-again c =
+    let at = c .before .before .before in
+    let numbers = at .before .args .numbers .now in
+    (omega arith, at .loop .inv .1 ∙ zero-here numbers (at .loop .i) (omega (arith, at .before .pre)) (c .if1 .left))
 
-zero-offsets-requires : tie.Need-zero-offsets-requires
-zero-offsets-requires c κs = search needs
-
-returns-8 : tie.Need-returns-8
-returns-8 c =
-    let start = c .before .before .before .before .before .before .before .before .before .before .before .before .before .before .before in
-    sym (not-stopped (start .args .t1) (λ parts. differ (sym (parts .now) ∙ fails-as _ _ (c .before .zero-offsets .ensures) (c .if8 .taken))))
-
-zero-offsets-requires-2 : tie.Need-zero-offsets-requires-2
-zero-offsets-requires-2 c κs = search needs
-
-returns-9 : tie.Need-returns-9
-returns-9 c =
-    let at-if7 = c .before .before .before .before .before in
-    let at-all-zero = at-if7 .before in
-    let at-if6 = at-all-zero .before .before .before in
-    let at-zero-tasks = at-if6 .before in
-    let at-if5 = at-zero-tasks .before .before in
-    let at-if4 = at-if5 .before in
-    let at-if3 = at-if4 .before in
-    let at-if2 = at-if3 .before in
-    let at-if1 = at-if2 .before in
-    let start = at-if1 .before in
-    c .zero-offsets2 .ensures
-    ∙ sym
-    (all-but-last (start .args .t1) (at-if1 .if1 .left) (at-if2 .if2 .left) (at-if3 .if3 .left) (at-if4 .if4 .left) (at-if5 .if5 .left)
-    (passes-as _ _ (at-zero-tasks .zero-tasks .ensures) (at-if6 .if6 .left)) (passes-as _ _ (at-all-zero .all-zero .ensures) (at-if7 .if7 .left))
-    (passes-as _ _ (c .before .before .before .zero-offsets .ensures) (c .before .before .if8 .left)))
+returns-2 : tie.Need-returns-2 Inv-loop μ-loop
+returns-2 c =
+    let start = c .before .before in
+    let numbers = start .args .numbers .now in
+    sym
+    (ap all-zero (numbers-of-state numbers (start .pre))
+    ∙ c .before .loop .inv .1
+    ∙ rw (drop-of-length-le numbers {i = c .before .loop .i} (omega (arith, start .pre))))
 
 pub is-stopped-spec : {M : Type 1} → statement M
 is-stopped-spec =
     tie.close
     (tie.spec
+    Inv-loop
+    μ-loop
+    loop-holds
+    mul-if1
+    shared-slice-read-if1
     returns
-    returns-2
-    returns-3
-    returns-4
-    returns-5
-    zero-tasks-requires
-    returns-6
-    all-zero-requires
-    returns-7
-    zero-offsets-requires
-    returns-8
-    zero-offsets-requires-2
-    returns-9)
+    add-i
+    loop-less
+    loop-again
+    returns-2)

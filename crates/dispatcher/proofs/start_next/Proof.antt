@@ -1,5 +1,5 @@
 -- `dispatcher::start_next` meets its contract: the turn is made out of the next start that was answered. Assumes nothing.
-use mathlib.Core.Path.{_≡_, _∙_, ap}
+use mathlib.Core.Path.{_≡_, sym, _∙_, ap}
 use Prim.Native.Nat.{_<_}
 use native.Mathlib.Omega.{arith}
 use lib.ListN.{length, getD}
@@ -7,6 +7,7 @@ use Rattle.rules.specs.declared.Dispatcher.{Dispatcher as State}
 use Rattle.rules.specs.Refusals.{refusal}
 use Rattle.rules.specs.Tasks.{task}
 use Rattle.rules.specs.Dispatcher.{refused}
+use Rattle.rules.proofs.Cases.{differ}
 use Rattle.sets.proofs.Instants.{steps-fit}
 use Rattle.decision.specs.declared.Found.{Found}
 use Rattle.decision.specs.declared.NextStart.the-variants.{Starts}
@@ -39,7 +40,7 @@ cast-n c = search needs
 next-start-requires : tie.Need-next-start-requires
 next-start-requires c κs =
     let start = c .before .before .before .before in
-    ((_, start .pre .0), start .pre .1)
+    ((_, start .pre .0, λ e. differ (sym e)), start .pre .1)
 
 enum-told : tie.Need-enum-told
 enum-told c = search needs

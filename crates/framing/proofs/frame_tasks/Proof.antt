@@ -5,10 +5,10 @@ use Prim.Native.Nat.{_-_}
 use native.Mathlib.Omega.{arith}
 use borrow.Author.Needs.{needs}
 use lib.ListN.{length}
-use Rattle.framing.specs.Frames.{Steps, Reached}
+use Rattle.framing.specs.Frames.{Steps, Reached, TowardsTasks}
 use Rattle.framing.proofs.PlaceLaws.{placed-at-start}
 use Rattle.framing.proofs.StepLaws.{goes-further, reached}
-use Rattle.framing.proofs.TaskLaws.{TowardsTasks, towards-at-start, behind-last, leads-on, refused-tasks, not-ended}
+use Rattle.framing.proofs.TaskLaws.{towards-at-start, behind-last, leads-on, refused-tasks, not-ended}
 use Rattle.framing.proofs.frame_tasks.Statement.{statement}
 use Rattle.framing.proofs.frame_tasks.Tie as tie
 
@@ -27,20 +27,23 @@ step-at-requires c κs = c .before .before .records .inv .0 .placed
 enum-known-t : tie.Need-enum-known-t Inv-records μ-records
 enum-known-t c = search needs
 
-records-less : tie.Need-records-less Inv-records μ-records
-unfolding Steps
-records-less c =
-    let e = c .before .before .before in
-    let f = goes-further _ _ _ _ (e .step-at .ensures) _ (c .before .t .given .1) in
-    omega (arith, f .0 .inside, f .1)
-
-records-again : tie.Need-records-again Inv-records μ-records
-records-again c =
+past-tasks-requires : tie.Need-past-tasks-requires Inv-records μ-records
+past-tasks-requires c κs =
     let e = c .before .before .before in
     let i = e .before .before .before .records .inv in (
       reached _ _ _ _ (e .step-at .ensures) (i .0) _ (c .before .t .given .1),
       leads-on _ _ _ (i .0) (i .1) (e .before .if1 .left) _ (e .step-at .ensures) _ (c .before .t .given .1),
     )
+
+records-less : tie.Need-records-less Inv-records μ-records
+unfolding Steps
+records-less c =
+    let t = c .before .before in
+    let f = goes-further _ _ _ _ (t .before .before .step-at .ensures) _ (t .t .given .1) in
+    omega (arith, f .1, c .past-tasks .ensures .0 .placed .inside, c .past-tasks .ensures .2)
+
+records-again : tie.Need-records-again Inv-records μ-records
+records-again c = (c .past-tasks .ensures .0, c .past-tasks .ensures .1)
 
 enum-known-r : tie.Need-enum-known-r Inv-records μ-records
 enum-known-r c = search needs
@@ -72,6 +75,7 @@ frame-tasks-spec =
     records-holds
     step-at-requires
     enum-known-t
+    past-tasks-requires
     records-less
     records-again
     enum-known-r

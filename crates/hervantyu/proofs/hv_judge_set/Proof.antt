@@ -5,20 +5,17 @@ use borrow.Author.Needs.{needs}
 use Rattle.rules.specs.Refusals.{set-tells}
 use Rattle.rules.specs.Tasks.{judge-set}
 use Rattle.rules.proofs.Promises.{set-refusals}
-use Rattle.hervantyu.specs.Lent.{set-from}
+use Rattle.numbers.specs.Numbers.{set-from}
 use Rattle.hervantyu.proofs.ToldAnswers.{no-number, no-place, value-given, its-number, its-place, value-kept}
 use Rattle.hervantyu.proofs.hv_judge_set.Statement.{statement}
 use Rattle.hervantyu.proofs.hv_judge_set.Tie as tie
 
 -- the answer is the rule book's for the lent numbers
-answered : (c : tie.After-judge-set) → judge-set (set-from (c .before .before .before .args .n) (c .before .before .before .args .tasks .now) 0) ≡ c .judge-set .result
-answered c = sym (c .judge-set .ensures ∙ ap judge-set (c .before .set-from .ensures))
+answered : (c : tie.After-judge-numbers) → judge-set (set-from (c .before .before .args .n) (c .before .before .args .tasks .now) 0) ≡ c .judge-numbers .result
+answered c = sym (c .judge-numbers .ensures)
 
-set-from-requires : tie.Need-set-from-requires
-set-from-requires c κs = search needs
-
-judge-set-requires : tie.Need-judge-set-requires
-judge-set-requires c κs = search needs
+judge-numbers-requires : tie.Need-judge-numbers-requires
+judge-numbers-requires c κs = search needs
 
 enum-known-f : tie.Need-enum-known-f
 enum-known-f c = search needs
@@ -41,4 +38,4 @@ returns-2 c =
 pub hv-judge-set-spec : {M : Type 1} → statement M
 hv-judge-set-spec =
     tie.close
-    (tie.spec set-from-requires judge-set-requires enum-known-f enum-known-r returns returns-2)
+    (tie.spec judge-numbers-requires enum-known-f enum-known-r returns returns-2)

@@ -1,10 +1,10 @@
--- `images::stands` meets its contract: the bytes left, the first byte and the second, each compared with the mark's row. Assumes nothing.
+-- `images::stands` meets its contract: the bytes left, and the first two as one number, compared with the mark's row. Assumes nothing.
 use mathlib.Core.Path.{ap}
 use native.Mathlib.Omega.{arith}
 use borrow.Author.Needs.{needs}
 use Rattle.images.specs.declared.Row.{Row}
 use Rattle.images.specs.Table.{mark-of}
-use Rattle.images.proofs.TableLaws.{short-body, stands-cut, stands-other, stands-is}
+use Rattle.images.proofs.TableLaws.{short-body, stands-cut, stands-pair}
 use Rattle.images.proofs.stands.Statement.{statement}
 use Rattle.images.proofs.stands.Tie as tie
 
@@ -20,25 +20,28 @@ add-if1 c = omega (arith, ap (λ (r : Row). r .body) (c .before .row-of .ensures
 returns : tie.Need-returns
 returns c = stands-cut _ _ _ _ (c .before .before .row-of .ensures) (c .if1 .taken)
 
-shared-slice-read-if2 : tie.Need-shared-slice-read-if2
-shared-slice-read-if2 c = search needs
+shared-slice-read-pair : tie.Need-shared-slice-read-pair
+shared-slice-read-pair c = search needs
+
+add-pair : tie.Need-add-pair
+add-pair c = search needs
+
+shared-slice-read-pair-2 : tie.Need-shared-slice-read-pair-2
+shared-slice-read-pair-2 c = search needs
+
+pair-requires : tie.Need-pair-requires
+pair-requires c κs = search needs
+
+pair-requires-2 : tie.Need-pair-requires-2
+pair-requires-2 c κs = search needs
 
 returns-2 : tie.Need-returns-2
 returns-2 c =
-    let e = c .before .before .before in
-    stands-other _ _ _ _ (e .before .before .row-of .ensures) (e .if1 .left) (c .if2 .taken)
-
-add-result : tie.Need-add-result
-add-result c = search needs
-
-shared-slice-read-result : tie.Need-shared-slice-read-result
-shared-slice-read-result c = search needs
-
-returns-3 : tie.Need-returns-3
-returns-3 c =
-    let f = c .before .before in
-    let e = f .before .before .before in
-    stands-is _ _ _ _ (e .before .before .row-of .ensures) (e .if1 .left) (f .if2 .left)
+    let b = c .before .before .before in
+    let e = b .before in
+    let s = e .before .before .before .before in
+    stands-pair _ _ _ _ (e .before .before .row-of .ensures) (e .if1 .left) _ _ (c .before .pair .ensures) (c .pair2 .ensures)
+    (omega (arith, b .shared-slice-known2 .given (s .args .at)))
 
 pub stands-spec : {M : Type 1} → statement M
 stands-spec =
@@ -48,8 +51,9 @@ stands-spec =
     sub-if1
     add-if1
     returns
-    shared-slice-read-if2
-    returns-2
-    add-result
-    shared-slice-read-result
-    returns-3)
+    shared-slice-read-pair
+    add-pair
+    shared-slice-read-pair-2
+    pair-requires
+    pair-requires-2
+    returns-2)

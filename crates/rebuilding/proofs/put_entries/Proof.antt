@@ -1,32 +1,38 @@
--- `rebuilding::put_entries` meets its contract. The loop's invariant: the starts so far are put, and the walk stands behind them. Assumes nothing.
+-- `rebuilding::put_entries` meets its contract. The loop's invariant: the starts so far are put, and the walk stands behind them. The measure: the
+-- starts that are left. Assumes nothing.
 use mathlib.Core.Path.{_≡_, sym, _∙_, ap}
-use Prim.Native.Nat.{_-_, _<_}
+use Prim.Native.Nat.{_-_, _≤_, _<_}
 use native.Mathlib.Omega.{arith}
 use lib.ListN.{length}
 use borrow.Author.Needs.{needs}
+use Rattle.rules.specs.Tasks.{all-jobs}
 use Rattle.sets.proofs.Slots.{slots-counted}
 use Rattle.fields.specs.Number.{Bytes}
 use Rattle.fields.proofs.Laws.{bytes-by-index}
-use Rattle.tables.proofs.Walk.{walk-free}
+use Rattle.tables.specs.Releases.{tasks-of}
+use Rattle.tables.proofs.Walk.{walk-free, walk-readable}
 use Rattle.writing.proofs.Puts.{put-length}
 use Rattle.rebuilding.proofs.Putting.{PutTo, PutsNext, all-in-time, releases-fit, put-begins, put-ends, never-stuck, puts-next}
 use Rattle.rebuilding.proofs.put_entries.Statement.{statement}
 use Rattle.rebuilding.proofs.put_entries.Tie as tie
 
 abbrev Inv-starts : tie.InvT-starts
-Inv-starts image h out₀ s n jobs slack next₀ release₀ offsets₀ idle₀ free₀ at₀ out next release offsets idle free at =
-    PutTo image s h jobs slack out₀ out next release offsets idle free at
+Inv-starts image h starts out₀ s n jobs slack next₀ release₀ offsets₀ idle₀ free₀ at₀ j₀ out next release offsets idle free at j =
+    PutTo image s h jobs slack out₀ out next release offsets idle free at j
 
 abbrev μ-starts : tie.MeasureT-starts
-μ-starts image h out₀ s n jobs slack next₀ release₀ offsets₀ idle₀ free₀ at₀ out next release offsets idle free at =
-    length out₀ - at
+μ-starts image h starts out₀ s n jobs slack next₀ release₀ offsets₀ idle₀ free₀ at₀ j₀ out next release offsets idle free at j =
+    starts - j
 
--- where the function begins, and where the turn of a start that is found begins
+-- where the function begins, where the turn of a start that is found begins, and the test there
 abbrev begin : tie.At-starts Inv-starts μ-starts → tie.Start Inv-starts μ-starts
 begin c = c .before .before .before .before .before .before .before .before .before
 
+abbrev tested : tie.After-f Inv-starts μ-starts → tie.In-starts Inv-starts μ-starts
+tested c = c .before .before .before .before .before .before .before .before
+
 abbrev turn : tie.After-f Inv-starts μ-starts → tie.At-starts Inv-starts μ-starts
-turn c = c .before .before .before .before .before .before .before .before .before .before .before
+turn c = tested c .before
 
 -- an image is bytes, and a set has sixteen slots
 bytes : (c : tie.After-shared-slice-known Inv-starts μ-starts) → Bytes (c .before .args .image .now)
@@ -35,17 +41,28 @@ bytes c = bytes-by-index (c .before .args .image .now) (λ i. c .shared-slice-kn
 slots : (c : tie.After-jobs-of Inv-starts μ-starts) → length (c .before .before .before .args .t2 .tasks) ≡ 16
 slots c = search (needs, slots-counted)
 
--- a job is left, and the next start is found: it is put
+-- a start is left
+fewer : (c : tie.In-starts Inv-starts μ-starts) →
+    let start = begin (c .before) in
+    c .before .starts .j < all-jobs (start .args .h) (tasks-of (start .args .t2))
+fewer c = omega (arith, c .starts-test .left, begin (c .before) .pre .1)
+
+-- or all have been made
+enough : (c : tie.After-starts Inv-starts μ-starts) →
+    let start = begin (c .before) in
+    all-jobs (start .args .h) (tasks-of (start .args .t2)) ≤ c .before .starts .j
+enough c = omega (arith, c .starts-test .taken, begin (c .before) .pre .1)
+
+-- a start is left, and the next is found: it is put
 next-put : (c : tie.After-f Inv-starts μ-starts) →
     PutsNext (begin (turn c) .args .image .now) (begin (turn c) .args .t2) (begin (turn c) .args .h)
     (turn c .before .before .before .before .before .before .jobs-of .result) (turn c .before .before .before .before .before .slack-of .result)
     (begin (turn c) .args .out .now) (turn c .starts .out) (turn c .starts .next) (turn c .starts .release) (turn c .starts .offsets)
-    (turn c .starts .at) (c .f .given .0 .0)
+    (turn c .starts .at) (turn c .starts .j) (c .f .given .0 .0)
 next-put c =
     let call = c .before .before in
-    let tested = call .before .before .before .before .before .before in
     let inv = turn c .starts .inv in
-    puts-next inv (sym (tested .if1 .left) ∙ tested .before .all-started .ensures) (c .f .given .0 .0)
+    puts-next inv (fewer (tested c)) (c .f .given .0 .0)
     (sym (c .f .given .1) ∙ call .next-start .ensures _ (inv .walk .fits))
 
 -- the start that was found, seen from behind the entry that is put
@@ -63,28 +80,25 @@ jobs-of-requires : tie.Need-jobs-of-requires Inv-starts μ-starts
 jobs-of-requires c κs = search needs
 
 slack-of-requires : tie.Need-slack-of-requires Inv-starts μ-starts
-slack-of-requires c κs = all-in-time _ _ _ _ _ (c .before .before .before .pre) (slots c)
+slack-of-requires c κs = all-in-time _ _ _ _ _ (c .before .before .before .pre .0) (slots c)
 
 releases-of-requires : tie.Need-releases-of-requires Inv-starts μ-starts
-releases-of-requires c κs = releases-fit _ _ _ _ _ (c .before .before .before .before .before .pre) (slots (c .before .before))
+releases-of-requires c κs = releases-fit _ _ _ _ _ (c .before .before .before .before .before .pre .0) (slots (c .before .before))
 
 first-record-requires : tie.Need-first-record-requires Inv-starts μ-starts
-first-record-requires c κs = omega (arith, c .before .before .before .before .before .before .before .pre .behind .few)
+first-record-requires c κs = omega (arith, c .before .before .before .before .before .before .before .pre .0 .behind .few)
 
 starts-holds : tie.Need-starts-holds Inv-starts μ-starts
 starts-holds c =
     let set-kept = c .before .before .before .before in
     let start = set-kept .before .before .before .before in
-    put-begins _ _ _ _ _ (start .pre) (slots (set-kept .before)) (bytes (set-kept .before .before .before)) _ _ _ _
+    put-begins _ _ _ _ _ (start .pre .0) (slots (set-kept .before)) (bytes (set-kept .before .before .before)) _ _ _ _
     (set-kept .before .jobs-of .ensures) (set-kept .slack-of .ensures) (c .before .before .releases-of .ensures) (c .first-record .ensures)
-
-all-started-requires : tie.Need-all-started-requires Inv-starts μ-starts
-all-started-requires c κs = omega (arith, c .before .starts .inv .behind .few)
 
 next-start-requires : tie.Need-next-start-requires Inv-starts μ-starts
 next-start-requires c κs =
-    let inv = c .before .before .before .before .before .before .before .before .starts .inv in
-    ((_, inv .walk .fits), walk-free (inv .stand) (inv .walk))
+    let inv = c .before .before .before .before .before .before .starts .inv in
+    ((_, inv .walk .fits, λ _. walk-readable (inv .stand) (inv .walk)), walk-free (inv .stand) (inv .walk))
 
 enum-told : tie.Need-enum-told Inv-starts μ-starts
 enum-told c = search needs
@@ -148,32 +162,35 @@ add-at c = search needs
 add-at-2 : tie.Need-add-at-2 Inv-starts μ-starts
 add-at-2 c =
     let q = found (c .before .before .before) in
-    omega (arith, next-put q .fits-in, begin (turn q) .good .1 .1 .1 .1 .0)
+    omega (arith, next-put q .fits-in, begin (turn q) .good .1 .1 .1 .1 .1 .0)
+
+add-j : tie.Need-add-j Inv-starts μ-starts
+add-j c = let q = found (c .before .before .before) in omega (arith, tested q .starts-test .left, begin (turn q) .fits .starts)
 
 starts-less : tie.Need-starts-less Inv-starts μ-starts
-starts-less c = let fits = next-put (found (c .before .before .before)) .fits-in in omega arith
+starts-less c = omega (arith, tested (found (c .before .before .before)) .starts-test .left)
 
 starts-again : tie.Need-starts-again Inv-starts μ-starts
 starts-again c = rw (c .before .before .before .before .before .put-entry .ensures) (next-put (found (c .before .before .before)) .goes-on)
 
 same-length : tie.Need-same-length Inv-starts μ-starts
-same-length c = ap length (c .before .before .before .starts .inv .put) ∙ put-length _ _ _
+same-length c = ap length (c .before .starts .inv .put) ∙ put-length _ _ _
 
 returns : tie.Need-returns Inv-starts μ-starts
-returns c = λ τ b. put-ends (c .before .before .before .starts .inv) (sym (c .if1 .taken) ∙ c .before .all-started .ensures) τ b
+returns c = λ τ b. put-ends (c .before .starts .inv) (enough c) τ b
 
 same-length-2 : tie.Need-same-length-2 Inv-starts μ-starts
 same-length-2 c =
     let call = c .before .before in
-    ap length (call .before .before .before .before .before .before .before .before .before .starts .inv .put) ∙ put-length _ _ _
+    ap length (call .before .before .before .before .before .before .before .starts .inv .put) ∙ put-length _ _ _
 
 returns-2 : tie.Need-returns-2 Inv-starts μ-starts
 returns-2 c =
     let call = c .before .before in
-    let tested = call .before .before .before .before .before .before in
-    let inv = tested .before .before .before .starts .inv in
+    let test = call .before .before .before .before .before .before in
+    let inv = test .before .starts .inv in
     absurd
-    (never-stuck inv (sym (tested .if1 .left) ∙ tested .before .all-started .ensures) _
+    (never-stuck inv (fewer test) _
     (sym (c .enum-told .given .1) ∙ call .next-start .ensures _ (inv .walk .fits)))
 
 pub put-entries-spec : {M : Type 1} → statement M
@@ -188,7 +205,6 @@ put-entries-spec =
     releases-of-requires
     first-record-requires
     starts-holds
-    all-started-requires
     next-start-requires
     enum-told
     enum-known-f
@@ -210,6 +226,7 @@ put-entries-spec =
     element-copy-out-at
     add-at
     add-at-2
+    add-j
     starts-less
     starts-again
     same-length

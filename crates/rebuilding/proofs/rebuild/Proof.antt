@@ -87,19 +87,21 @@ put-set-requires c κs =
 
 put-entries-requires : tie.Need-put-entries-requires
 put-entries-requires c κs =
-    let q = c .before .before .before .before .before .before in
-    record {
-      entries = is-good q .entries;
-      behind = behind q;
-      room = omega (
-        arith,
-        c .before .before .before .before .before .if2 .left,
-        c .before .before .before .put-set .kept .0,
-        q .first-record .ensures,
-        is-good q .starts,
-        as-many-entries _ _ _ _ _ (behind q),
-      );
-    }
+    let q = c .before .before .before .before .before .before in (
+      record {
+        entries = is-good q .entries;
+        behind = behind q;
+        room = omega (
+          arith,
+          c .before .before .before .before .before .if2 .left,
+          c .before .before .before .put-set .kept .0,
+          q .first-record .ensures,
+          is-good q .starts,
+          as-many-entries _ _ _ _ _ (behind q),
+        );
+      },
+      is-good q .starts,
+    )
 
 add-before : tie.Need-add-before
 add-before c = search needs

@@ -1,72 +1,43 @@
--- `sets::judge_set` meets its contract: at each of its tests the answer is the rule book's. Assumes nothing.
-use mathlib.Core.Path.{_≡_}
-use mathlib.Core.Logic.{⊎-elim}
-use mathlib.Core.Option.{none}
-use native.Mathlib.Omega.{arith}
+-- `sets::judge_set` meets its contract: its stored tasks are judged, and the set that they are is the set. Assumes nothing.
+use mathlib.Core.Path.{_≡_, _∙_, ap}
+use mathlib.Core.List.{List}
+use Prim.Native.Nat.{ℕ}
+use lib.ListN.{length, replicate, length-replicate}
+use Rattle.rules.specs.Tasks.{judge-set}
+use Rattle.numbers.specs.Numbers.{set-from}
+use Rattle.numbers.proofs.SetNumbers.{set-of-stored}
+use Rattle.sets.proofs.Slots.{slots-counted}
 use borrow.Author.Needs.{needs}
-use borrow.Author.Tests.{ltb-true, ltb-false}
-use Rattle.rules.specs.Tasks.{tasks-fault}
-use Rattle.sets.proofs.Slots.{slots-counted, first-tasks}
-use Rattle.sets.proofs.Faults.{told-none, told-fault}
-use Rattle.sets.proofs.Answers.{InSlots, refused-empty, refused-crowded, refused-task, refused-long, refused-many, answered-good}
 use Rattle.sets.proofs.judge_set.Statement.{statement}
 use Rattle.sets.proofs.judge_set.Tie as tie
 
--- what is known after the test of the number of tasks
-in-slots : (c : tie.Else2) → InSlots (c .before .before .before .before .args .s)
-in-slots c = record { some-tasks = omega arith; few-tasks = ltb-false 16 _ (c .if2 .left); slots = search (needs, slots-counted) }
+slice-aggregate-put-tasks : tie.Need-slice-aggregate-put-tasks
+slice-aggregate-put-tasks c = search needs
 
--- what is known after the test of the tasks
-no-fault : (c : tie.Else3) → tasks-fault 1 0 (first-tasks (c .before .before .before .before .before .before .before .args .s)) ≡ none
-no-fault c = told-none _ _ (c .before .before .tasks-fault .ensures) (c .if3 .left)
+put-tasks-requires : tie.Need-put-tasks-requires
+put-tasks-requires c κs = search needs
+
+slice-aggregate-judge-numbers : tie.Need-slice-aggregate-judge-numbers
+slice-aggregate-judge-numbers c = search needs
+
+judge-numbers-requires : tie.Need-judge-numbers-requires
+judge-numbers-requires c κs = search needs
 
 returns : tie.Need-returns
 returns c =
-    let s = c .before .before .args .s in
-    ⊎-elim (λ w. refused-empty s (w .taken)) (λ w. refused-crowded s (w .0 .left) (ltb-true 16 (s .n) (w .2 .taken))) (c .if1 .came)
-
-tasks-fault-requires : tie.Need-tasks-fault-requires
-tasks-fault-requires c κs = search needs
-
-returns-2 : tie.Need-returns-2
-returns-2 c =
-    let at = c .before .before in
-    refused-task (in-slots (at .before)) _ (told-fault _ _ (at .tasks-fault .ensures) (c .if3 .taken))
-
-hyperperiod-requires : tie.Need-hyperperiod-requires
-hyperperiod-requires c κs = (in-slots (c .before .before .before) .few-tasks, no-fault c)
-
-returns-3 : tie.Need-returns-3
-returns-3 c =
-    let at = c .before .before in
-    refused-long (in-slots (at .before .before .before)) (no-fault at) _ (c .before .hyperperiod .ensures) (c .if4 .taken)
-
-all-jobs-requires : tie.Need-all-jobs-requires
-all-jobs-requires c κs = search needs
-
-returns-4 : tie.Need-returns-4
-returns-4 c =
-    let h = c .before .before in
-    let at = h .before .before in
-    refused-many (in-slots (at .before .before .before)) (no-fault at) _ (h .before .hyperperiod .ensures) (h .if4 .left) _ (c .before .all-jobs .ensures)
-    (c .if5 .taken)
-
-returns-5 : tie.Need-returns-5
-returns-5 c =
-    let h = c .before .before in
-    let at = h .before .before in
-    answered-good (in-slots (at .before .before .before)) (no-fault at) _ (h .before .hyperperiod .ensures) (h .if4 .left) _ (c .before .all-jobs .ensures)
-    (c .if5 .left)
+    let stored = c .before .before .before in
+    let s = stored .before .before .args .s in
+    let slots : length (s .tasks) ≡ 16 = search (needs, slots-counted) in
+    c .judge-numbers .ensures
+    ∙ ap (λ (lent : List ℕ). judge-set (set-from (s .n) lent 0)) (stored .put-tasks .ensures)
+    ∙ ap judge-set (set-of-stored s (replicate 64 0) slots (length-replicate {A = ℕ} 64 0))
 
 pub judge-set-spec : {M : Type 1} → statement M
 judge-set-spec =
     tie.close
     (tie.spec
-    returns
-    tasks-fault-requires
-    returns-2
-    hyperperiod-requires
-    returns-3
-    all-jobs-requires
-    returns-4
-    returns-5)
+    slice-aggregate-put-tasks
+    put-tasks-requires
+    slice-aggregate-judge-numbers
+    judge-numbers-requires
+    returns)

@@ -2,7 +2,7 @@
 use borrow.Author.Needs.{needs}
 use Rattle.fields.specs.Number.{Bytes}
 use Rattle.fields.proofs.Laws.{bytes-by-index}
-use Rattle.tables.proofs.ImagesJudged.{its-times, can-judge, judged-by-records, has-offsets, can-replay, judged-by-replay, judged-good}
+use Rattle.tables.proofs.ImagesJudged.{jobs-counted, its-times, can-judge, judged-by-records, has-offsets, can-replay, judged-by-replay, judged-good}
 use Rattle.tables.proofs.judge_records.Statement.{statement}
 use Rattle.tables.proofs.judge_records.Tie as tie
 
@@ -44,14 +44,19 @@ first-offsets-requires c κs =
     has-offsets (bytes known) (known .before .pre) (kept .before .jobs-of .ensures) (kept .slack-of .ensures) _ (judged .records-fault .ensures)
     (c .if1 .left)
 
+cast-replay-fault : tie.Need-cast-replay-fault
+cast-replay-fault c = search needs
+
 replay-fault-requires : tie.Need-replay-fault-requires
 replay-fault-requires c κs =
-    let told = c .before .before in
+    let told = c .before .before .before in
     let judged = told .before .before .before in
     let kept = judged .before .before .before in
-    let known = kept .before .before .before in
-    can-replay (bytes known) (known .before .pre) (kept .before .jobs-of .ensures) (kept .slack-of .ensures) _ (judged .records-fault .ensures)
-    (told .before .if1 .left) _ (told .first-offsets .ensures)
+    let known = kept .before .before .before in (
+      can-replay (bytes known) (known .before .pre) (kept .before .jobs-of .ensures) (kept .slack-of .ensures) _ (judged .records-fault .ensures)
+          (told .before .if1 .left) _ (told .first-offsets .ensures),
+      jobs-counted (bytes known) (known .before .pre),
+    )
 
 refused-requires-2 : tie.Need-refused-requires-2
 refused-requires-2 c κs = search needs
@@ -59,7 +64,7 @@ refused-requires-2 c κs = search needs
 returns-2 : tie.Need-returns-2
 returns-2 c =
     let replayed = c .before .before .before in
-    let told = replayed .before .before .before in
+    let told = replayed .before .before .before .before in
     let judged = told .before .before .before in
     let kept = judged .before .before .before in
     let known = kept .before .before .before in
@@ -69,7 +74,7 @@ returns-2 c =
 returns-3 : tie.Need-returns-3
 returns-3 c =
     let replayed = c .before .before in
-    let told = replayed .before .before .before in
+    let told = replayed .before .before .before .before in
     let judged = told .before .before .before in
     let kept = judged .before .before .before in
     let known = kept .before .before .before in
@@ -87,6 +92,7 @@ judge-records-spec =
     refused-requires
     returns
     first-offsets-requires
+    cast-replay-fault
     replay-fault-requires
     refused-requires-2
     returns-2

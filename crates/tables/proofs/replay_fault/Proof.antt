@@ -1,6 +1,7 @@
--- `tables::replay_fault` meets its contract. The invariant: the variables are those of replay after some starts. Assumes nothing.
+-- `tables::replay_fault` meets its contract. The invariant: the variables are those of replay after some starts. The measure: the starts that are
+-- left. Assumes nothing.
 use mathlib.Core.Path.{_≡_, sym, _∙_}
-use Prim.Native.Nat.{_-_, _<_}
+use Prim.Native.Nat.{_-_, _≤_, _<_}
 use native.Mathlib.Omega.{arith}
 use lib.ListN.{length}
 use borrow.Author.Needs.{needs}
@@ -10,22 +11,37 @@ use Rattle.rules.specs.Tasks.{all-jobs}
 use Rattle.sets.proofs.Slots.{slots-counted}
 use Rattle.decision.specs.declared.Found.{Found}
 use Rattle.tables.specs.Releases.{tasks-of}
-use Rattle.tables.proofs.Walk.{walk-free}
+use Rattle.tables.proofs.Walk.{walk-free, walk-readable}
 use Rattle.tables.proofs.Replaying.{ReplayAt, ReplayGoesOn, releases-at-first, replay-at-begins, replay-at-late, replay-at-on, replay-at-ends, replay-at-done}
 use Rattle.tables.proofs.replay_fault.Statement.{statement}
 use Rattle.tables.proofs.replay_fault.Tie as tie
 
 abbrev Inv-starts : tie.InvT-starts
-Inv-starts image h jobs slack idles first s n next₀ release₀ offsets₀ idle₀ free₀ wasted₀ starts₀ next release offsets idle free wasted starts =
+Inv-starts image h jobs slack idles first all s n next₀ release₀ offsets₀ idle₀ free₀ wasted₀ starts₀ next release offsets idle free wasted starts =
     ReplayAt image s h jobs slack idles first next release offsets idle free wasted starts
 
 abbrev μ-starts : tie.MeasureT-starts
-μ-starts image h jobs slack idles first s n next₀ release₀ offsets₀ idle₀ free₀ wasted₀ starts₀ next release offsets idle free wasted starts =
-    all-jobs h (tasks-of s) - starts
+μ-starts image h jobs slack idles first all s n next₀ release₀ offsets₀ idle₀ free₀ wasted₀ starts₀ next release offsets idle free wasted starts =
+    all - starts
 
--- where the loop stands, and the start that was found
+-- a start is left
+fewer : (c : tie.Else1 Inv-starts μ-starts) →
+    let start = c .before .before .before .before .before .before in
+    c .before .starts .starts < all-jobs (start .args .h) (tasks-of (start .args .t2))
+fewer c = omega (arith, c .if1 .left, c .before .before .before .before .before .before .pre .1)
+
+-- or all have been made
+enough : (c : tie.Then1 Inv-starts μ-starts) →
+    let start = c .before .before .before .before .before .before in
+    all-jobs (start .args .h) (tasks-of (start .args .t2)) ≤ c .before .starts .starts
+enough c = omega (arith, c .if1 .taken, c .before .before .before .before .before .before .pre .1)
+
+-- where the loop stands, the test there, and the start that was found
+abbrev tested : tie.After-f Inv-starts μ-starts → tie.Else1 Inv-starts μ-starts
+tested c = c .before .before .before .before .before .before
+
 abbrev here : tie.After-f Inv-starts μ-starts → tie.At-starts Inv-starts μ-starts
-here c = c .before .before .before .before .before .before .before .before .before
+here c = tested c .before
 
 abbrev found : tie.After-f Inv-starts μ-starts → Found
 found c = c .f .given .0 .0
@@ -37,10 +53,8 @@ went-on : (c : tie.After-f Inv-starts μ-starts) →
     ReplayGoesOn (a .image .now) (a .t2) (a .h) (a .jobs .now) (a .slack .now) (a .idles) (a .first) (at .starts .next) (at .starts .release)
     (at .starts .offsets) (at .starts .wasted) (at .starts .starts) (found c)
 went-on c =
-    let answered = c .before .before in
-    let tested = answered .before .before .before .before in
-    replay-at-on (here c .starts .inv) (sym (tested .if1 .left) ∙ tested .before .all-started .ensures) (found c)
-    (sym (c .f .given .1) ∙ answered .next-start .ensures _ (here c .starts .inv .walk .fits))
+    replay-at-on (here c .starts .inv) (fewer (tested c)) (found c)
+    (sym (c .f .given .1) ∙ c .before .before .next-start .ensures _ (here c .starts .inv .walk .fits))
 
 -- its task has a slot
 in-slots : (c : tie.After-f Inv-starts μ-starts) → found c .task < 16
@@ -50,7 +64,7 @@ cast-n : tie.Need-cast-n Inv-starts μ-starts
 cast-n c = search needs
 
 releases-of-requires : tie.Need-releases-of-requires Inv-starts μ-starts
-releases-of-requires c κs = releases-at-first (c .before .before .pre)
+releases-of-requires c κs = releases-at-first (c .before .before .pre .0)
 
 starts-holds : tie.Need-starts-holds Inv-starts μ-starts
 starts-holds c =
@@ -58,19 +72,18 @@ starts-holds c =
     let slots : length (start .args .t2 .tasks) ≡ 16 = search (needs, slots-counted) in
     let bytes : Bytes (start .args .image .now) =
     bytes-by-index (start .args .image .now) (λ i. c .before .before .before .shared-slice-known .given i .fits) in
-    rw (c .before .releases-of .ensures) (replay-at-begins bytes slots (start .pre))
-
-all-started-requires : tie.Need-all-started-requires Inv-starts μ-starts
-all-started-requires c κs = c .before .starts .inv .can .fits .few
+    rw (c .before .releases-of .ensures) (replay-at-begins bytes slots (start .pre .0))
 
 unused-requires : tie.Need-unused-requires Inv-starts μ-starts
-unused-requires c κs = let at = c .before .before .before in replay-at-ends (at .starts .inv) (sym (c .if1 .taken) ∙ c .before .all-started .ensures)
+unused-requires c κs = replay-at-ends (c .before .starts .inv) (enough c)
 
 next-start-requires : tie.Need-next-start-requires Inv-starts μ-starts
 next-start-requires c κs =
-    let at = c .before .before .before .before .before .before in
-    let r = at .starts .inv in
-    ((tasks-of (at .before .before .before .before .before .args .t2), r .walk .fits), walk-free (r .stand) (r .walk))
+    let at = c .before .before .before .before in
+    let r = at .starts .inv in (
+      (tasks-of (at .before .before .before .before .before .args .t2), r .walk .fits, λ _. walk-readable (r .stand) (r .walk)),
+      walk-free (r .stand) (r .walk),
+    )
 
 enum-told : tie.Need-enum-told Inv-starts μ-starts
 enum-told c = search needs
@@ -130,26 +143,25 @@ add-free : tie.Need-add-free Inv-starts μ-starts
 add-free c = omega (arith, went-on (c .before .before .before .before .before .before .before) .ends-in-cycle)
 
 add-starts : tie.Need-add-starts Inv-starts μ-starts
-add-starts c = let g = went-on (c .before .before .before .before .before .before .before) in omega (arith, g .few-starts, g .few-jobs)
+add-starts c =
+    let q = c .before .before .before .before .before .before .before in
+    omega (arith, tested q .if1 .left, here q .before .before .before .before .before .fits .all)
 
 starts-less : tie.Need-starts-less Inv-starts μ-starts
-starts-less c = let g = went-on (c .before .before .before .before .before .before .before) in omega (arith, g .few-starts, g .few-jobs)
+starts-less c = omega (arith, tested (c .before .before .before .before .before .before .before) .if1 .left)
 
 starts-again : tie.Need-starts-again Inv-starts μ-starts
 starts-again c = rw (c .before .before .before .wasted-after .ensures) (went-on (c .before .before .before .before .before .before .before) .goes-on)
 
 returns : tie.Need-returns Inv-starts μ-starts
-returns c =
-    let at = c .before .before .before .before in
-    rw (c .unused .ensures) (replay-at-done (at .starts .inv) (sym (c .before .if1 .taken) ∙ c .before .before .all-started .ensures))
+returns c = rw (c .unused .ensures) (replay-at-done (c .before .before .starts .inv) (enough (c .before)))
 
 returns-2 : tie.Need-returns-2 Inv-starts μ-starts
 returns-2 c =
     let answered = c .before .before in
-    let tested = answered .before .before .before .before in
-    let at = tested .before .before .before in
-    replay-at-late (at .starts .inv) (sym (tested .if1 .left) ∙ tested .before .all-started .ensures) _
-    (sym (c .enum-told .given .1) ∙ answered .next-start .ensures _ (at .starts .inv .walk .fits))
+    let test = answered .before .before .before .before in
+    let r = test .before .starts .inv in
+    replay-at-late r (fewer test) _ (sym (c .enum-told .given .1) ∙ answered .next-start .ensures _ (r .walk .fits))
 
 pub replay-fault-spec : {M : Type 1} → statement M
 replay-fault-spec =
@@ -160,7 +172,6 @@ replay-fault-spec =
     cast-n
     releases-of-requires
     starts-holds
-    all-started-requires
     unused-requires
     next-start-requires
     enum-told

@@ -1,0 +1,5 @@
+pub mod FilledSlots
+pub mod StoredNumbers
+pub mod StateNumbers
+pub mod SetNumbers
+pub mod StoredMoves
