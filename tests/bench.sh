@@ -1,10 +1,10 @@
 #!/bin/sh
 # Measures the archive beside an implementation written for speed. On some processors a loop takes up
 # to twice as long where a branch of it lies on a boundary of 32 bytes, and where the archive's
-# functions lie is the linker's choice: so the program is linked twice, the second time with the
-# archive moved by 16 bytes, and the other implementation is compiled with its branches off those
-# boundaries. The first column is the archive's better placement, the second its worse one. HV_ARCHIVE
-# names another archive than the repository's own.
+# functions lie is the linker's choice: so the program is linked four times, with the archive moved
+# by 16 bytes each time, and the other implementation is compiled with its branches off those
+# boundaries. The first column is the archive's best placement, the second its worst, both over the
+# other's best. HV_ARCHIVE names another archive than the repository's own.
 set -eu
 
 tests=$(cd "$(dirname "$0")" && pwd)
@@ -14,7 +14,7 @@ test -f "$archive" || { echo "no archive at $archive" >&2; exit 1; }
 built=$(mktemp -d)
 trap 'rm -rf "$built"' EXIT
 
-for moved in 16 32; do
+for moved in 16 32 48 64; do
     cat >"$built/moved.c" <<END
 __asm__(".section .text.moved, \"ax\", @progbits\n.globl moved\nmoved: .skip $moved, 0x90\n");
 END
@@ -25,20 +25,31 @@ END
     run "$built/bench" >"$built/$moved"
 done
 
-paste "$built/16" "$built/32" | awk '
-    NR == 1 {
-        print "better  worse  call     tasks  jobs  idles  inversions  bytes  archive ns   fast ns  unlimited ns"
-        next
-    }
+awk '
+    FNR == 1 { next }
     {
-        half = NF / 2
-        low = $8 + 0; high = $(half + 8) + 0
-        if (high < low) { low = high; high = $8 + 0 }
-        fast = $9 + 0
-        if ($(half + 9) + 0 < fast) fast = $(half + 9) + 0
-        printf "%6.2f %6.2f  %-8s %5s %5s  %5s  %10s  %5s  %10d  %8d  %12s\n", \
-            low / fast, high / fast, $2, $3, $4, $5, $6, $7, low, fast, (half > 9 ? $10 : "")
-        if ($4 == 256) first[$2, $3] = low
-        if ($4 == 4096) growth = growth sprintf("  %-8s %5s  %5.1f\n", $2, $3, low / first[$2, $3])
+        row = $2 " " $3 " " $4
+        if (!(row in low)) {
+            rows[++count] = row
+            shape[row] = sprintf("%-8s %5s %5s  %5s  %10s  %5s", $2, $3, $4, $5, $6, $7)
+            low[row] = high[row] = $8; fast[row] = $9; unlimited[row] = $10
+        }
+        if ($8 < low[row]) low[row] = $8
+        if ($8 > high[row]) high[row] = $8
+        if ($9 < fast[row]) fast[row] = $9
+        if ($10 != "" && $10 < unlimited[row]) unlimited[row] = $10
     }
-    END { printf "\ngrowth of the archive from 256 to 4,096 jobs, 16 times as many: call, tasks, times as long\n%s", growth }'
+    END {
+        print "  best  worst  call     tasks  jobs  idles  inversions  bytes  archive ns   fast ns  unlimited ns"
+        for (i = 1; i <= count; i++) {
+            row = rows[i]
+            printf "%6.2f %6.2f  %s  %10d  %8d  %12s\n", low[row] / fast[row], high[row] / fast[row], \
+                shape[row], low[row], fast[row], unlimited[row]
+        }
+        print "\ngrowth of the archive from 256 to 4,096 jobs, 16 times as many: call, tasks, times as long"
+        for (i = 1; i <= count; i++) {
+            split(rows[i], part, " ")
+            if (part[3] == 4096)
+                printf "  %-8s %5s  %5.1f\n", part[1], part[2], low[rows[i]] / low[part[1] " " part[2] " 256"]
+        }
+    }' "$built/16" "$built/32" "$built/48" "$built/64"

@@ -5,12 +5,11 @@ use mathlib.Core.Bool.{Bool, true, false}
 use mathlib.Core.List.{List}
 use mathlib.Core.Option.{Option, none, some}
 use Prim.Native.Nat.{ℕ, _+_, _-_, _≤_, _<_}
-use native.Mathlib.Nat.{div-le-self}
 use native.Mathlib.Omega.{arith}
 use lib.Dec.{ltb, eqb}
 use lib.Count.{trailingZeros}
 use lib.ListN.{getD}
-use borrow.Author.Tests.{leb-true, eqb-true, eqb-false, lt-ltb, le-ltb, le-leb, eq-eqb, ne-eqb}
+use borrow.Author.Tests.{leb-true, eqb-true, lt-ltb, le-ltb, le-leb, eq-eqb, ne-eqb}
 use Rattle.rules.specs.declared.Task.{Task}
 use Rattle.rules.specs.declared.Inversion.{Inversion}
 use Rattle.rules.specs.Tasks.{task, release, hyperperiod, KeepsItsRule}
@@ -145,6 +144,10 @@ module _ {ts : List Task} {h n : ℕ} {bytes x releases offsets : List ℕ} {t m
       ap (λ (o : ℕ). readable (lent bytes ts .inversion-shown o)) (sym (slot-getD offsets i))
       ∙ tasks-read-each (lent bytes ts) n offsets (c .tasks-read) i l
 
+  -- the time since a release is a delay
+  pub since-small : (r : ℕ) → t - r < no-delay
+  since-small r = omega (arith, c .before-end, c .fits .set .good .short)
+
   -- at first the whole mask is left
   pub left-all : Left ts n bytes x releases offsets t mask
   left-all = record {
@@ -216,14 +219,6 @@ module _ {ts : List Task} {h n : ℕ} {bytes x releases offsets : List ℕ} {t m
       pub left-slot : i < 16
       left-slot = omega (arith, few, left-below)
 
-      -- its number, its next job's and the time since the release are small
-      pub left-small : (i ≤ 65535) × (getD x i 0 ≤ 65535) × (t - getD releases i 0 < no-delay)
-      left-small = (
-        omega (arith, left-slot),
-        omega (arith, slot-getD x i, c .fits .counts i left-below, div-le-self h (task ts i .period), c .fits .set .good .short),
-        omega (arith, c .before-end, c .fits .set .good .short),
-      )
-
       -- the lowest bit is cleared, by its number
       pub cleared : {less : ℕ} → less ≡ clear-bit left (trailingZeros 16 left) → less ≡ clear-bit left i
       cleared e = e ∙ ap (clear-bit left) (sym is-lowest)
@@ -247,21 +242,26 @@ module _ {ts : List Task} {h n : ℕ} {bytes x releases offsets : List ℕ} {t m
           (λ below. differ
           (sym (s .kept j l (lowest-from-some n 0 now j g)) ∙ below-lowest n 0 (s .test) i found j (omega arith) below)))
 
-      module _ {number : ℕ}
-          (is-number : number ≡ delay-number (own-delay (lent bytes ts .inversion-shown (getD offsets i 0)) i (getD x i 0))) where
-        -- then it is chosen
-        pub chosen-recorded : number ≡ t - getD releases i 0 → IsChosen ts n bytes x offsets t mask (record { task = i; own = true })
-        chosen-recorded e =
-            let here : now i ≡ true = sym (number-now left-below is-number left-come) ∙ eq-eqb number (t - getD releases i 0) e in
+      -- whether its offset shows a record for this instant is told
+      module _ {told : Bool} (is-told : told ≡ eqb (delay-number (own-delay (lent bytes ts .inversion-shown (getD offsets i 0)) i (getD x i 0)))
+          (t - getD releases i 0)) where
+        -- as the rule book tells it
+        told-now : told ≡ now i
+        told-now = is-told ∙ number-now left-below refl left-come
+
+        -- with one it is chosen
+        pub chosen-shown : told ≡ true → IsChosen ts n bytes x offsets t mask (record { task = i; own = true })
+        chosen-shown e =
+            let here : now i ≡ true = sym told-now ∙ e in
             record {
               is-task = sym (rw (lowest-now here));
               is-own = λ l. falls-some (delay i) (release (task ts i) (slot x i)) t here;
             }
 
         -- without one it is left out
-        pub left-less : (number ≡ t - getD releases i 0 → ⊥) → Left ts n bytes x releases offsets t (clear-bit left i)
-        left-less other =
-            let not-here : now i ≡ false = sym (number-now left-below is-number left-come) ∙ ne-eqb number (t - getD releases i 0) other in
+        pub left-unshown : told ≡ false → Left ts n bytes x releases offsets t (clear-bit left i)
+        left-unshown e =
+            let not-here : now i ≡ false = sym told-now ∙ e in
             record {
               test = other-than i (s .test);
               is-left = ap (λ (m : ℕ). clear-bit m i) (s .is-left) ∙ mask-clear n i (s .test) few left-slot;
@@ -269,17 +269,6 @@ module _ {ts : List Task} {h n : ℕ} {bytes x releases offsets : List ℕ} {t m
                   (λ q. s .waits j l (sym (other-kept i (s .test) j q) ∙ e));
               kept = λ j l e. by-eq j i (λ q. differ (sym e ∙ ap now q ∙ not-here)) (λ q. other-kept i (s .test) j q ∙ s .kept j l e);
             }
-
-      -- the same where the test of the record is told
-      module _ {told : Bool} (is-told : told ≡ eqb (delay-number (own-delay (lent bytes ts .inversion-shown (getD offsets i 0)) i (getD x i 0)))
-          (t - getD releases i 0)) where
-        -- it is chosen
-        pub chosen-shown : told ≡ true → IsChosen ts n bytes x offsets t mask (record { task = i; own = true })
-        chosen-shown e = chosen-recorded refl (eqb-true _ _ (sym is-told ∙ e))
-
-        -- or left out
-        pub left-unshown : told ≡ false → Left ts n bytes x releases offsets t (clear-bit left i)
-        left-unshown e = left-less refl (eqb-false _ _ (sym is-told ∙ e))
 
       -- fewer bits are left
       pub fewer-left : {less : ℕ} → less ≡ clear-bit left i → 16 - trailingZeros 16 less < 16 - trailingZeros 16 left

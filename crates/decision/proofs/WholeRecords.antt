@@ -3,16 +3,13 @@ use mathlib.Core.Path.{_≡_, refl, sym, _∙_, ap, ap₂}
 use mathlib.Core.Bool.{Bool, true, false}
 use mathlib.Core.List.{List}
 use mathlib.Core.Option.{Option, none, some}
-use Prim.Native.Nat.{ℕ, _+_, _*_, min, _≤_, _<_}
+use Prim.Native.Nat.{ℕ, _+_, min, _≤_, _<_}
 use native.Mathlib.Nat.{add-zero}
 use native.Mathlib.Omega.{arith}
 use lib.Dec.{leb, eqb}
 use lib.ListN.{length, getD, drop}
 use lib.Seq.{getD-drop}
 use borrow.Author.Tests.{leb-true, le-leb, eqb-true, eq-eqb, ne-eqb}
-use Rattle.fields.specs.Number.{Bytes}
-use Rattle.fields.proofs.Laws.{bytes-take, bytes-drop}
-use Rattle.fields.proofs.Places.{field-at-below}
 use Rattle.rules.specs.declared.Task.{Task}
 use Rattle.rules.specs.declared.Idle.{Idle}
 use Rattle.rules.specs.declared.Inversion.{Inversion}
@@ -122,15 +119,9 @@ module _ (bytes : List ℕ) (o len : ℕ) (part : List ℕ) (is-part : part ≡ 
       r ≡ to-inversion (values PV (drop o bytes))
   inversion-body-read e is-length r read = read ∙ ap inversion-of is-part ∙ rw is-length (inversion-body-is bytes o (whole-inside bytes o PV e))
 
-  -- its numbers are in the ranges of their widths
-  pub inversion-small : Bytes bytes → (r : Inversion) → r ≡ inversion-of part → (r .task ≤ 65535) × (r .job ≤ 65535) × (r .delay ≤ no-delay)
-  inversion-small b r read =
-      let there : Bytes part = rw is-part (bytes-take len (drop (o + 2) bytes) (bytes-drop (o + 2) bytes b)) in
-      rw read (
-        omega (arith, field-at-below 1 part 0 there),
-        omega (arith, field-at-below 2 part 1 there),
-        omega (arith, field-at-below 4 part 3 there),
-      )
+-- the number that tells of no record is no delay's
+pub none-told : {told delay : ℕ} → no-delay ≡ told → delay < no-delay → false ≡ eqb told delay
+none-told {told} {delay} e small = sym (ne-eqb told delay (λ g. absurd (omega (arith, e, g, small))))
 
 -- the answer that a task's offset cannot be read
 pub inversion-unread : (k : Shown Inversion) → inversion-answer.Unreadable ≡ inversion-case k → readable k ≡ false
@@ -277,12 +268,6 @@ module _ (ts : List Task) (bytes : List ℕ) (o : ℕ) where
     pub own-none : (i k : ℕ) → (getD bytes o 0 ≡ row PV .byte₁ → ⊥) → no-delay ≡ delay-number (own-delay inversion-there i k)
     own-none i k other = by-readable can (λ w e. absurd (other (first-byte bytes o PV w))) (λ w e. rw e)
 
-    -- so it shows no delay that is one
-    pub none-shown : (i k delay : ℕ) → delay < no-delay → (getD bytes o 0 ≡ row PV .byte₁ → ⊥) →
-        false ≡ eqb (delay-number (own-delay inversion-there i k)) delay
-    none-shown i k delay small other =
-        sym (ne-eqb (delay-number (own-delay inversion-there i k)) delay (λ g. absurd (omega (arith, own-none i k other, g, small))))
-
     -- with PV's first byte it shows a PV
     module _ (same : getD bytes o 0 ≡ row PV .byte₁) where
       -- which stands there whole
@@ -317,21 +302,17 @@ module _ (ts : List Task) (bytes : List ℕ) (o : ℕ) where
         abbrev told : ℕ
         told = delay-number (own-delay inversion-there i k)
 
-        -- its packed number is that of the job and a delay where it is this job's with this delay
-        pub packed-shown : (r .task ≤ 65535) × (r .job ≤ 65535) × (r .delay ≤ no-delay) → (delay : ℕ) → i ≤ 65535 → k ≤ 65535 → delay < no-delay →
-            {one two : ℕ} → one ≡ r .task * 281474976710656 + r .job * 4294967296 + r .delay →
-            two ≡ i * 281474976710656 + k * 4294967296 + delay → eqb one two ≡ eqb told delay
-        packed-shown small delay li lk ld {one} {two} is-one is-two =
+        -- with another delay than the one asked for
+        pub other-delay-shown : (delay : ℕ) → delay < no-delay → (r .delay ≡ delay → ⊥) → false ≡ eqb told delay
+        other-delay-shown delay small other =
             by-eq (r .task) i
-            (λ same-task.
+            (λ same-task. by-eq (r .job) k (λ same-job. sym (ne-eqb told delay (λ g. other (own-job same-task same-job ∙ g))))
+            (λ another. none-told (other-job same-task another) small))
+            (λ another. none-told (other-task another) small)
+
+        -- with this delay, and this task's, it is shown where it is this job's
+        pub job-shown : (delay : ℕ) → delay < no-delay → r .delay ≡ delay → r .task ≡ i → eqb (r .job) k ≡ eqb told delay
+        job-shown delay small same-delay same-task =
             by-eq (r .job) k
-            (λ same-job.
-            let own : r .delay ≡ told = own-job same-task same-job in
-            by-eq (r .delay) delay (λ e. eq-eqb one two (omega arith) ∙ sym (eq-eqb told delay (sym own ∙ e)))
-            (λ e. ne-eqb one two (λ g. e (omega arith)) ∙ sym (ne-eqb told delay (λ g. e (own ∙ g)))))
-            (λ other. apart (λ g. other (omega arith)) (other-job same-task other)))
-            (λ other. apart (λ g. other (omega arith)) (other-task other))
-          where
-            -- another number, where no delay is told
-            apart : (one ≡ two → ⊥) → no-delay ≡ told → eqb one two ≡ eqb told delay
-            apart differs none-told = ne-eqb one two differs ∙ sym (ne-eqb told delay (λ g. absurd (omega (arith, none-told, g, ld))))
+            (λ same-job. eq-eqb (r .job) k same-job ∙ sym (eq-eqb told delay (sym (own-job same-task same-job) ∙ same-delay)))
+            (λ other. ne-eqb (r .job) k other ∙ none-told (other-job same-task other) small)

@@ -12,7 +12,7 @@ use rules::Inversion;
 ghost use mathlib.Core.Path.{_≡_};
 ghost use mathlib.Core.List.{List};
 ghost use mathlib.Core.Bool.{true};
-ghost use Prim.Native.Nat.{ℕ, _+_, _*_, max, min, _≤_, _<_};
+ghost use Prim.Native.Nat.{ℕ, _+_, max, min, _≤_, _<_};
 ghost use lib.Dec.{eqb};
 ghost use lib.Count.{trailingZeros};
 ghost use lib.ListN.{length};
@@ -244,18 +244,9 @@ fn own_delay(image: &[u8], offset: u32, task: u32, job: u32) -> u32
     r.delay
 }
 
-// A task, a job and a delay as one number, so that one comparison tells all three.
-fn packed(task: u32, job: u32, delay: u32) -> u64
-    requires { ⌜ (task ≤ 65535) × (job ≤ 65535) ⌝ }
-    ensures { λ r. ⌜ r ≡ task * 281474976710656 + job * 4294967296 + delay ⌝ }
-{
-    (task as u64) * 281474976710656 + (job as u64) * 4294967296 + (delay as u64)
-}
-
 // Does an offset which can be read show the record of a job of a task, with this delay?
 fn shows_delay(image: &[u8], offset: u32, task: u32, job: u32, delay: u32) -> bool
-    requires { ⌜ ((ts : List Task) × (readable (lent (now image) ts .inversion-shown offset) ≡ true))
-        × (task ≤ 65535) × (job ≤ 65535) × (delay < no-delay) ⌝ }
+    requires { ⌜ ((ts : List Task) × (readable (lent (now image) ts .inversion-shown offset) ≡ true)) × (delay < no-delay) ⌝ }
     ensures { λ r. ⌜ ((ts : List Task) → readable (lent (now (image .entry)) ts .inversion-shown offset) ≡ true →
         r ≡ eqb (delay-number (own-delay (lent (now (image .entry)) ts .inversion-shown offset) task job)) delay) ⌝ }
 {
@@ -264,7 +255,13 @@ fn shows_delay(image: &[u8], offset: u32, task: u32, job: u32, delay: u32) -> bo
         return false;
     }
     let r = images::inversion_body(images::part(image, at + 2, body_of(PV)));
-    packed(r.task, r.job, r.delay) == packed(task, job, delay)
+    if r.delay != delay {
+        return false;
+    }
+    if r.task != task {
+        return false;
+    }
+    r.job == job
 }
 
 // A task, 16 for none, and whether its offset shows its next job's record.
@@ -295,19 +292,12 @@ fn chosen_task(
     }
     let first = lowest(mask);
     let i = first as usize;
-    let delay = own_delay(image, offsets[i], first, next[i]);
-    if delay == t - release[i] {
-        return Chosen {
-            task: first,
-            own: true,
-        };
-    }
-    let mut left = without_lowest(mask);
+    let mut left = mask;
     'tasks: loop {
         if left == 0 {
             break 'tasks Chosen {
                 task: first,
-                own: delay < LAST,
+                own: own_delay(image, offsets[i], first, next[i]) < LAST,
             };
         }
         let task = lowest(left);

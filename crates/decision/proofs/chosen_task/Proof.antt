@@ -6,16 +6,16 @@ use lib.Count.{trailingZeros}
 use borrow.Author.Needs.{needs}
 use Rattle.rules.specs.declared.Task.{Task}
 use Rattle.decision.specs.Next.{Choosing}
-use Rattle.decision.proofs.Looking.{Left, some-left, cleared, choosing-read, left-all, chosen-none, chosen-lowest, left-below, left-slot, left-small, left-released, chosen-recorded, chosen-shown, left-less, left-unshown, fewer-left}
+use Rattle.decision.proofs.Looking.{Left, some-left, cleared, choosing-read, left-all, chosen-none, chosen-lowest, left-below, left-slot, left-released, since-small, chosen-shown, left-unshown, fewer-left}
 use Rattle.decision.proofs.chosen_task.Statement.{statement}
 use Rattle.decision.proofs.chosen_task.Tie as tie
 
 abbrev Inv-tasks : tie.InvT-tasks
-Inv-tasks image mask next release offsets t first i delay left₀ left =
+Inv-tasks image mask next release offsets t first i left₀ left =
     (ts : List Task) (h n : ℕ) → Choosing ts h n image next release offsets t mask → Left ts n image next release offsets t left
 
 abbrev μ-tasks : tie.MeasureT-tasks
-μ-tasks image mask next release offsets t first i delay left₀ left = 16 - trailingZeros 16 left
+μ-tasks image mask next release offsets t first i left₀ left = 16 - trailingZeros 16 left
 
 returns : tie.Need-returns Inv-tasks μ-tasks
 returns c = λ ts h n choosing. chosen-none choosing (c .if1 .taken)
@@ -26,64 +26,32 @@ lowest-requires c κs = search needs
 cast-i : tie.Need-cast-i Inv-tasks μ-tasks
 cast-i c = search needs
 
+tasks-holds : tie.Need-tasks-holds Inv-tasks μ-tasks
+tasks-holds c = λ ts h n choosing. left-all choosing
+
 mul-own-delay : tie.Need-mul-own-delay Inv-tasks μ-tasks
 mul-own-delay c = search needs
 
 element-copy-out-own-delay : tie.Need-element-copy-out-own-delay Inv-tasks μ-tasks
 element-copy-out-own-delay c =
-    let given = c .before .before .before .pre in
-    left-slot (given .3) (left-all (given .3)) (c .before .if1 .left) (c .lowest .ensures)
+    let low = c .before .before in
+    let given = low .before .before .before .pre in
+    left-slot (given .3) (left-all (given .3)) (low .before .if1 .left) (low .lowest .ensures)
 
 mul-own-delay-2 : tie.Need-mul-own-delay-2 Inv-tasks μ-tasks
 mul-own-delay-2 c = search needs
 
 element-copy-out-own-delay-2 : tie.Need-element-copy-out-own-delay-2 Inv-tasks μ-tasks
 element-copy-out-own-delay-2 c =
-    let low = c .before in
+    let low = c .before .before .before in
     let given = low .before .before .before .pre in
     left-slot (given .3) (left-all (given .3)) (low .before .if1 .left) (low .lowest .ensures)
 
 own-delay-requires : tie.Need-own-delay-requires Inv-tasks μ-tasks
 own-delay-requires c κs =
-    let low = c .before .before in
-    let given = low .before .before .before .pre in
-    (given .0, choosing-read (given .3) (left-below (given .3) (left-all (given .3)) (low .before .if1 .left) (low .lowest .ensures)))
-
-mul-if2 : tie.Need-mul-if2 Inv-tasks μ-tasks
-mul-if2 c = search needs
-
-element-copy-out-if2 : tie.Need-element-copy-out-if2 Inv-tasks μ-tasks
-element-copy-out-if2 c =
-    let low = c .before .before .before in
-    let given = low .before .before .before .pre in
-    left-slot (given .3) (left-all (given .3)) (low .before .if1 .left) (low .lowest .ensures)
-
-sub-if2 : tie.Need-sub-if2 Inv-tasks μ-tasks
-sub-if2 c =
     let low = c .before .before .before .before in
     let given = low .before .before .before .pre in
-    left-released (given .3) (left-all (given .3)) (low .before .if1 .left) (low .lowest .ensures)
-
-returns-2 : tie.Need-returns-2 Inv-tasks μ-tasks
-returns-2 c = λ ts h n choosing.
-    let told = c .before .before in
-    let low = told .before .before .before in
-    let l = left-below choosing (left-all choosing) (low .before .if1 .left) (low .lowest .ensures) in
-    chosen-recorded choosing (left-all choosing) (low .before .if1 .left) (low .lowest .ensures)
-    (told .own-delay .ensures ts (choosing-read choosing l)) (c .if2 .taken)
-
-without-lowest-requires : tie.Need-without-lowest-requires Inv-tasks μ-tasks
-without-lowest-requires c κs = some-left (c .before .before .before .before .before .before .if1 .left)
-
-tasks-holds : tie.Need-tasks-holds Inv-tasks μ-tasks
-tasks-holds c = λ ts h n choosing.
-    let test = c .before in
-    let told = test .before .before in
-    let low = told .before .before .before in
-    let l = left-below choosing (left-all choosing) (low .before .if1 .left) (low .lowest .ensures) in
-    rw (cleared choosing (left-all choosing) (low .before .if1 .left) (low .lowest .ensures) (c .without-lowest .ensures))
-    (left-less choosing (left-all choosing) (low .before .if1 .left) (low .lowest .ensures)
-    (told .own-delay .ensures ts (choosing-read choosing l)) (test .if2 .left))
+    (given .0, choosing-read (given .3) (left-below (given .3) (left-all (given .3)) (low .before .if1 .left) (low .lowest .ensures)))
 
 lowest-requires-2 : tie.Need-lowest-requires-2 Inv-tasks μ-tasks
 lowest-requires-2 c κs = search needs
@@ -97,8 +65,8 @@ mul-shows-delay c = search needs
 element-copy-out-shows-delay : tie.Need-element-copy-out-shows-delay Inv-tasks μ-tasks
 element-copy-out-shows-delay c =
     let at = c .before .before in
-    let given = at .before .before .before .before .before .before .before .before .before .before .pre in
-    left-slot (given .3) (at .tasks .inv _ _ _ (given .3)) (c .before .if3 .left) (c .lowest2 .ensures)
+    let given = at .before .before .before .before .pre in
+    left-slot (given .3) (at .tasks .inv _ _ _ (given .3)) (c .before .if2 .left) (c .lowest2 .ensures)
 
 mul-shows-delay-2 : tie.Need-mul-shows-delay-2 Inv-tasks μ-tasks
 mul-shows-delay-2 c = search needs
@@ -107,8 +75,8 @@ element-copy-out-shows-delay-2 : tie.Need-element-copy-out-shows-delay-2 Inv-tas
 element-copy-out-shows-delay-2 c =
     let low = c .before in
     let at = low .before .before in
-    let given = at .before .before .before .before .before .before .before .before .before .before .pre in
-    left-slot (given .3) (at .tasks .inv _ _ _ (given .3)) (low .before .if3 .left) (low .lowest2 .ensures)
+    let given = at .before .before .before .before .pre in
+    left-slot (given .3) (at .tasks .inv _ _ _ (given .3)) (low .before .if2 .left) (low .lowest2 .ensures)
 
 mul-shows-delay-3 : tie.Need-mul-shows-delay-3 Inv-tasks μ-tasks
 mul-shows-delay-3 c = search needs
@@ -117,36 +85,35 @@ element-copy-out-shows-delay-3 : tie.Need-element-copy-out-shows-delay-3 Inv-tas
 element-copy-out-shows-delay-3 c =
     let low = c .before .before in
     let at = low .before .before in
-    let given = at .before .before .before .before .before .before .before .before .before .before .pre in
-    left-slot (given .3) (at .tasks .inv _ _ _ (given .3)) (low .before .if3 .left) (low .lowest2 .ensures)
+    let given = at .before .before .before .before .pre in
+    left-slot (given .3) (at .tasks .inv _ _ _ (given .3)) (low .before .if2 .left) (low .lowest2 .ensures)
 
 sub-shows-delay : tie.Need-sub-shows-delay Inv-tasks μ-tasks
 sub-shows-delay c =
     let low = c .before .before .before in
     let at = low .before .before in
-    let given = at .before .before .before .before .before .before .before .before .before .before .pre in
-    left-released (given .3) (at .tasks .inv _ _ _ (given .3)) (low .before .if3 .left) (low .lowest2 .ensures)
+    let given = at .before .before .before .before .pre in
+    left-released (given .3) (at .tasks .inv _ _ _ (given .3)) (low .before .if2 .left) (low .lowest2 .ensures)
 
 shows-delay-requires : tie.Need-shows-delay-requires Inv-tasks μ-tasks
 shows-delay-requires c κs =
     let low = c .before .before .before in
     let at = low .before .before in
-    let given = at .before .before .before .before .before .before .before .before .before .before .pre in
-    let l = left-below (given .3) (at .tasks .inv _ _ _ (given .3)) (low .before .if3 .left) (low .lowest2 .ensures) in
-    let small = left-small (given .3) (at .tasks .inv _ _ _ (given .3)) (low .before .if3 .left) (low .lowest2 .ensures) in
-    ((given .0, choosing-read (given .3) l), small .0, small .1, small .2)
+    let given = at .before .before .before .before .pre in
+    let l = left-below (given .3) (at .tasks .inv _ _ _ (given .3)) (low .before .if2 .left) (low .lowest2 .ensures) in
+    ((given .0, choosing-read (given .3) l), since-small (given .3) _)
 
-without-lowest-requires-2 : tie.Need-without-lowest-requires-2 Inv-tasks μ-tasks
-without-lowest-requires-2 c κs = some-left (c .before .before .before .before .before .before .if3 .left)
+without-lowest-requires : tie.Need-without-lowest-requires Inv-tasks μ-tasks
+without-lowest-requires c κs = some-left (c .before .before .before .before .before .before .if2 .left)
 
 tasks-less : tie.Need-tasks-less Inv-tasks μ-tasks
 tasks-less c =
     let low = c .before .before .before .before .before .before in
     let at = low .before .before in
-    let given = at .before .before .before .before .before .before .before .before .before .before .pre in
+    let given = at .before .before .before .before .pre in
     let left = at .tasks .inv _ _ _ (given .3) in
-    fewer-left (given .3) left (low .before .if3 .left) (low .lowest2 .ensures)
-    (cleared (given .3) left (low .before .if3 .left) (low .lowest2 .ensures) (c .without-lowest2 .ensures))
+    fewer-left (given .3) left (low .before .if2 .left) (low .lowest2 .ensures)
+    (cleared (given .3) left (low .before .if2 .left) (low .lowest2 .ensures) (c .without-lowest .ensures))
 
 tasks-again : tie.Need-tasks-again Inv-tasks μ-tasks
 tasks-again c = λ ts h n choosing.
@@ -154,28 +121,28 @@ tasks-again c = λ ts h n choosing.
     let told = test .before in
     let low = told .before .before .before .before in
     let left = low .before .before .tasks .inv ts h n choosing in
-    let l = left-below choosing left (low .before .if3 .left) (low .lowest2 .ensures) in
-    rw (cleared choosing left (low .before .if3 .left) (low .lowest2 .ensures) (c .without-lowest2 .ensures))
-    (left-unshown choosing left (low .before .if3 .left) (low .lowest2 .ensures)
-    (told .shows-delay .ensures ts (choosing-read choosing l)) (test .if4 .left))
+    let l = left-below choosing left (low .before .if2 .left) (low .lowest2 .ensures) in
+    rw (cleared choosing left (low .before .if2 .left) (low .lowest2 .ensures) (c .without-lowest .ensures))
+    (left-unshown choosing left (low .before .if2 .left) (low .lowest2 .ensures)
+    (told .shows-delay .ensures ts (choosing-read choosing l)) (test .if3 .left))
+
+returns-2 : tie.Need-returns-2 Inv-tasks μ-tasks
+returns-2 c = λ ts h n choosing.
+    let test = c .before .before .before in
+    let at = test .before in
+    let low = at .before in
+    let l = left-below choosing (left-all choosing) (low .before .if1 .left) (low .lowest .ensures) in
+    chosen-lowest choosing (at .tasks .inv ts h n choosing) (test .if2 .taken) (low .lowest .ensures) l
+    (c .own-delay .ensures ts (choosing-read choosing l))
 
 returns-3 : tie.Need-returns-3 Inv-tasks μ-tasks
 returns-3 c = λ ts h n choosing.
-    let at = c .before in
-    let told = at .before .before .before .before in
-    let low = told .before .before .before in
-    let l = left-below choosing (left-all choosing) (low .before .if1 .left) (low .lowest .ensures) in
-    chosen-lowest choosing (at .tasks .inv ts h n choosing) (c .if3 .taken) (low .lowest .ensures) l
-    (told .own-delay .ensures ts (choosing-read choosing l))
-
-returns-4 : tie.Need-returns-4 Inv-tasks μ-tasks
-returns-4 c = λ ts h n choosing.
     let told = c .before in
     let low = told .before .before .before .before in
     let left = low .before .before .tasks .inv ts h n choosing in
-    let l = left-below choosing left (low .before .if3 .left) (low .lowest2 .ensures) in
-    chosen-shown choosing left (low .before .if3 .left) (low .lowest2 .ensures)
-    (told .shows-delay .ensures ts (choosing-read choosing l)) (c .if4 .taken)
+    let l = left-below choosing left (low .before .if2 .left) (low .lowest2 .ensures) in
+    chosen-shown choosing left (low .before .if2 .left) (low .lowest2 .ensures)
+    (told .shows-delay .ensures ts (choosing-read choosing l)) (c .if3 .taken)
 
 pub chosen-task-spec : {M : Type 1} → statement M
 chosen-task-spec =
@@ -186,17 +153,12 @@ chosen-task-spec =
     returns
     lowest-requires
     cast-i
+    tasks-holds
     mul-own-delay
     element-copy-out-own-delay
     mul-own-delay-2
     element-copy-out-own-delay-2
     own-delay-requires
-    mul-if2
-    element-copy-out-if2
-    sub-if2
-    returns-2
-    without-lowest-requires
-    tasks-holds
     lowest-requires-2
     cast-j
     mul-shows-delay
@@ -207,8 +169,8 @@ chosen-task-spec =
     element-copy-out-shows-delay-3
     sub-shows-delay
     shows-delay-requires
-    without-lowest-requires-2
+    without-lowest-requires
     tasks-less
     tasks-again
-    returns-3
-    returns-4)
+    returns-2
+    returns-3)
