@@ -5,7 +5,8 @@
 # by 16 bytes each time, and the other implementation is compiled with its branches off those
 # boundaries. Each program is run twice, and the least time of each side counts: what else runs on the
 # machine only adds to a time. HV_ARCHIVE names another archive than the repository's own.
-# With `instructions` as its argument it counts those executed instead, for which valgrind is needed.
+# With `instructions` as its argument it counts those executed instead, for which an x86-64 host and
+# valgrind are needed.
 set -eu
 
 tests=$(cd "$(dirname "$0")" && pwd)
