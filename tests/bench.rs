@@ -36,6 +36,11 @@ const SETS: [&[(u32, usize)]; 6] = [
 
 fn main() {
     let mut chance = Chance::new(SEED);
+    let asked: Vec<String> = std::env::args().skip(1).collect();
+    if let [call, side, set, times] = &asked[..] {
+        let [set, times] = [set, times].map(|number| number.parse().expect("a number"));
+        return repeat(call, side == "archive", set, times);
+    }
     println!(
         "archive/fast  call    tasks  jobs idles  inversions  bytes  archive ns   fast ns  \
          unlimited ns"
@@ -44,11 +49,6 @@ fn main() {
         let tasks = tasks_of(&mut chance, periods);
         let entries = timetable(&mut chance, &tasks);
         let image = image_of(&tasks, &entries);
-        if std::env::args().nth(1).as_deref() == Some("once") {
-            let tables = TIMETABLES.once(&image);
-            assert_eq!(TABLES.once(&tables), image);
-            continue;
-        }
         let tables = same_answers(&TIMETABLES, &image);
         assert_eq!(same_answers(&TABLES, &tables), image);
         same_refusals(&TIMETABLES, &mut chance, &image);
@@ -64,6 +64,38 @@ fn main() {
         let run = Run::new(&tasks, &tables, CYCLES * entries.len());
         run.same_refusals(&mut Chance::new(SEED));
         print_row("go", shape, &tables, &run.times());
+    }
+}
+
+/// Asks one side the same so many times, on the image of one set: for counting what is executed.
+fn repeat(call: &str, archive: bool, set: usize, times: usize) {
+    let mut chance = Chance::new(SEED);
+    let mut made = SETS.iter().map(|periods| {
+        let tasks = tasks_of(&mut chance, periods);
+        let entries = timetable(&mut chance, &tasks);
+        (tasks, entries)
+    });
+    let (tasks, entries) = made.nth(set).expect("there is such a set");
+    let image = image_of(&tasks, &entries);
+    let mut out = vec![0; ROOM];
+    let length = fast::derive(&image, &mut out).expect("the image is good");
+    let tables = out[..length].to_vec();
+    let run = Run::new(&tasks, &tables, CYCLES * entries.len());
+    let mut ask = || match (call, archive) {
+        ("check", true) => TIMETABLES.check(black_box(&image)).is_ok(),
+        ("check", false) => fast::check_timetable(black_box(&image)).is_ok(),
+        ("derive", true) => TIMETABLES.turn(black_box(&image), &mut out).is_ok(),
+        ("derive", false) => fast::derive(black_box(&image), &mut out).is_ok(),
+        ("accept", true) => TABLES.check(black_box(&tables)).is_ok(),
+        ("accept", false) => fast::check_tables(black_box(&tables)).is_ok(),
+        ("rebuild", true) => TABLES.turn(black_box(&tables), &mut out).is_ok(),
+        ("rebuild", false) => fast::rebuild(black_box(&tables), &mut out).is_ok(),
+        ("go", true) => run.goes_on(archive_go_on),
+        ("go", false) => run.goes_on(dispatcher::go_on),
+        _ => panic!("there is no call {call}"),
+    };
+    for _ in 0..times {
+        assert!(black_box(ask()), "a call that was good is refused");
     }
 }
 
@@ -214,15 +246,6 @@ impl Sides {
             0 => Ok(length as usize),
             number => Err(Refusal { number, place }),
         }
-    }
-
-    /// Every function once on a good image, for counting what they execute; gives back what it is turned into.
-    fn once(&self, image: &[u8]) -> Vec<u8> {
-        let (mut one, mut other) = (vec![0; ROOM], vec![0; ROOM]);
-        assert_eq!(self.check(image), (self.fast_check)(image));
-        let turned = self.turn(image, &mut one);
-        assert_eq!(turned, (self.fast_turn)(image, &mut other));
-        one[..turned.expect("the image is good")].to_vec()
     }
 
     /// The times of checking and of turning an image, the archive's first.

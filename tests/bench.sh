@@ -5,8 +5,8 @@
 # by 16 bytes each time, and the other implementation is compiled with its branches off those
 # boundaries. Each program is run twice, and the least time of each side counts: what else runs on the
 # machine only adds to a time. HV_ARCHIVE names another archive than the repository's own.
-# With `instructions` as its argument it counts those executed instead, for which an x86-64 host and
-# valgrind are needed.
+# With `instructions` as its argument it counts those executed instead, a number that does not depend
+# on the machine: an emulator (Debian's qemu-user) runs the program and a plugin counts.
 set -eu
 
 tests=$(cd "$(dirname "$0")" && pwd)
@@ -16,13 +16,36 @@ test -f "$archive" || { echo "no archive at $archive" >&2; exit 1; }
 built=$(mktemp -d)
 trap 'rm -rf "$built"' EXIT
 
+# Prints how many instructions the program executes with these arguments.
+executed() {
+    COUNTED="$built/counted" qemu-x86_64 -plugin "$built/count.so" "$built/bench" "$@"
+    cat "$built/counted"
+}
+
 if test "${1:-}" = instructions; then
+    command -v qemu-x86_64 >/dev/null || { echo "needed: qemu-x86_64, of Debian's qemu-user" >&2; exit 1; }
+    gcc -shared -fPIC -O2 -o "$built/count.so" "$tests/count.c"
     compile_rust --edition 2021 -O -D warnings -C codegen-units=1 -C link-arg="$archive" -o "$built/bench" "$tests/bench.rs"
-    for name in hv_check_timetable '*fast*check_timetable*' hv_derive '*fast*derive*' hv_check_tables '*fast::check_tables*' hv_rebuild '*fast*rebuild*'; do
-        printf '%-26s' "$name"
-        run valgrind --tool=callgrind --callgrind-out-file=/dev/null --toggle-collect="$name" "$built/bench" once 2>&1 | sed -n 's/.*Collected : //p'
+    echo "archive/fast  call     tasks  jobs     archive        fast"
+    for shape in "0 2 256" "1 2 1024" "2 2 4096" "3 16 256" "4 16 1024" "5 16 4096"; do
+        # Unquoted: the set's number among the program's, its tasks and its jobs.
+        set -- $shape
+        for call in check derive accept rebuild go; do
+            for side in archive fast; do
+                once=$(executed "$call" "$side" "$1" 1)
+                thrice=$(executed "$call" "$side" "$1" 3)
+                echo "$(((thrice - once) / 2))"
+            done | paste -s | awk -v call="$call" -v tasks="$2" -v jobs="$3" '
+                { printf "%12.2f  %-8s %5d %5d  %10d  %10d\n", $1 / $2, call, tasks, jobs, $1, $2 }'
+        done
     done
     exit
+fi
+
+# Only compilers for x86-64 know of those boundaries.
+branches="-C llvm-args=-x86-branches-within-32B-boundaries"
+if test -n "${HV_NATIVE:-}" && test "$(uname -m)" != x86_64; then
+    branches=
 fi
 
 for moved in 16 32 48 64; do
@@ -30,8 +53,8 @@ for moved in 16 32 48 64; do
 __asm__(".section .text.moved, \"ax\", @progbits\n.globl moved\nmoved: .skip $moved, 0x90\n");
 END
     compile_c -c -o "$built/moved.o" "$built/moved.c"
-    compile_rust --edition 2021 -O -D warnings -C codegen-units=1 \
-        -C llvm-args=-x86-branches-within-32B-boundaries -C link-arg=-Wl,-u,moved \
+    # Unquoted: one word for each of the compiler's.
+    compile_rust --edition 2021 -O -D warnings -C codegen-units=1 $branches -C link-arg=-Wl,-u,moved \
         -C link-arg="$built/moved.o" -C link-arg="$archive" -o "$built/bench" "$tests/bench.rs"
     run "$built/bench" >"$built/$moved"
     run "$built/bench" | awk 'FNR > 1' >>"$built/$moved"

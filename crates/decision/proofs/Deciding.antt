@@ -14,7 +14,7 @@ use Rattle.rules.specs.Setting.{instant}
 use Rattle.rules.specs.Priority.{setting, least-release}
 use Rattle.rules.specs.Decision.{idle-for, idle-at}
 use Rattle.rules.specs.Marks.{ID, size, body-length}
-use Rattle.rules.specs.Offsets.{Shown, unreadable, no-record, shows, last-offset, lent, idle-now, past-idle, readable, tasks-readable, all-readable, next-start}
+use Rattle.rules.specs.Offsets.{Shown, unreadable, no-record, shows, Source, last-offset, lent, idle-now, past-idle, readable, tasks-readable, all-readable, next-start}
 use Rattle.rules.proofs.Cases.{by-bool, both-in, clash, differ}
 use Rattle.rules.proofs.NextTurns.{shown-choice, lent-in-range, next-unreadable, next-idles}
 use Rattle.decision.specs.declared.IdleShown.{IdleShown}
@@ -24,17 +24,11 @@ use Rattle.records.specs.Fits.{SetFits}
 use Rattle.decision.specs.Fits.{Fits}
 use Rattle.decision.specs.Shown.{idle-case}
 use Rattle.decision.specs.Waiting.{least-of}
-use Rattle.decision.specs.Next.{next-case, next-of, StartsAt, Idling, IdledTo}
-use Rattle.decision.proofs.WholeRecords.{idle-after}
+use Rattle.decision.specs.Next.{IdlesRead, none-left, one-more, next-case, next-of, StartsAt, Idling, IdledTo}
+use Rattle.decision.proofs.WholeRecords.{idle-unread, idle-after}
 use Rattle.decision.proofs.Fitting.{is-hyperperiod, least-by-end, least-as}
 
--- the answer that the ID offset cannot be read
-idle-unread : (k : Shown Idle) → Unreadable ≡ idle-case k → readable k ≡ false
-idle-unread unreadable e = refl
-idle-unread no-record e = clash (cc)
-idle-unread (shows r after) e = clash (cc)
-
--- that it shows no record
+-- the answer that the ID offset shows no record
 idle-none : (k : Shown Idle) → NoRecord ≡ idle-case k → k ≡ no-record
 idle-none unreadable e = clash (cc)
 idle-none no-record e = refl
@@ -123,14 +117,35 @@ pub tasks-told-unread : (bytes : List ℕ) {n : ℕ} {many slack : List ℕ} (of
 tasks-told-unread bytes offsets told free idle {h} {x} e ts fits =
     tasks-unread ts bytes x free offsets idle (rw (fits .set .n-tasks) at (sym (told ts h (fits .set)) ∙ e))
 
--- from an instant and an ID offset on, the next start is the one that was asked for, whatever fits
-pub record Decides (bytes : List ℕ) (n h : ℕ) (many slack : List ℕ) (first free idle from o : ℕ) : Type 0 where
+-- an ID offset from which all idle records can be read can be read itself
+idle-can-be-read : {S : Source} {o : ℕ} → IdlesRead S o → readable (S .idle-shown o) ≡ true
+idle-can-be-read (none-left e) = rw e
+idle-can-be-read (one-more e rest) = rw e
+
+-- and so can all behind the record that it shows
+read-behind : {S : Source} {o after : ℕ} {r : Idle} → IdlesRead S o → S .idle-shown o ≡ shows r after → IdlesRead S after
+read-behind (none-left e) shown = clash (cc)
+read-behind {after = after} {r = r} (one-more {after = w} {r = q} e rest) shown =
+    let g : shows q w ≡ shows r after = sym e ∙ shown in
+    let same : w ≡ after = cc in
+    rw same at rest
+
+-- from an instant and an ID offset on, the next start is the one that was asked for, whatever fits; and where the image's records were judged, some
+-- set that fits has all idle records read from there
+pub record Decides (bytes : List ℕ) (judged : Bool) (n h : ℕ) (many slack : List ℕ) (first free idle from o : ℕ) : Type 0 where
   pub by-end : from ≤ h
   pub same : (ts : List Task) (x releases offsets : List ℕ) → Idling ts bytes h n many slack x releases offsets first →
       next-start (setting ts) (lent bytes ts) x from offsets o ≡ next-start (setting ts) (lent bytes ts) x free offsets idle
+  pub idles-read : judged ≡ true → (ts : List Task) × SetFits ts h n many slack × IdlesRead (lent bytes ts) o
 
-module _ {bytes : List ℕ} {n h : ℕ} {many slack : List ℕ} {first free idle from o : ℕ}
-    (d : Decides bytes n h many slack first free idle from o) {t : ℕ} (is-instant : t ≡ max from first) {answer : IdleShown}
+-- where they were judged, the ID offset can be read
+pub judged-readable : {bytes : List ℕ} {judged : Bool} {n h : ℕ} {many slack : List ℕ} {first free idle from o : ℕ} →
+    Decides bytes judged n h many slack first free idle from o → judged ≡ true →
+    (ts : List Task) × SetFits ts h n many slack × (readable (lent bytes ts .idle-shown o) ≡ true)
+judged-readable d e = let read = d .idles-read e in (read .0, read .1, idle-can-be-read (read .2))
+
+module _ {bytes : List ℕ} {judged : Bool} {n h : ℕ} {many slack : List ℕ} {first free idle from o : ℕ}
+    (d : Decides bytes judged n h many slack first free idle from o) {t : ℕ} (is-instant : t ≡ max from first) {answer : IdleShown}
     (shown : (ts : List Task) → SetFits ts h n many slack → answer ≡ idle-case (lent bytes ts .idle-shown o))
     (ts : List Task) (x releases offsets : List ℕ) (i : Idling ts bytes h n many slack x releases offsets first) where
   -- the instant, by the least of releases
@@ -190,12 +205,19 @@ module _ {bytes : List ℕ} {n h : ℕ} {many slack : List ℕ} {first free idle
           ∙ d .same ts x releases offsets i)
 
 -- an idle record that is used leads on, as some set fits
-pub decides-again : {bytes : List ℕ} {n h : ℕ} {many slack : List ℕ} {first free idle from o : ℕ}
-    (d : Decides bytes n h many slack first free idle from o) {t : ℕ} (is-instant : t ≡ max from first) {answer : IdleShown}
+pub decides-again : {bytes : List ℕ} {judged : Bool} {n h : ℕ} {many slack : List ℕ} {first free idle from o : ℕ}
+    (d : Decides bytes judged n h many slack first free idle from o) {t : ℕ} (is-instant : t ≡ max from first) {answer : IdleShown}
     (shown : (ts : List Task) → SetFits ts h n many slack → answer ≡ idle-case (lent bytes ts .idle-shown o))
     (ts : List Task) (x releases offsets : List ℕ) → Idling ts bytes h n many slack x releases offsets first → {r : Idle} → answer ≡ Shows r →
-    r .start ≡ t → {len : ℕ} → len ≡ body-length ID → Decides bytes n h many slack first free idle (t + r .length) (o + (len + 2))
-decides-again d is-instant shown ts x releases offsets i shows-it now is-length = record {
+    r .start ≡ t → {len : ℕ} → len ≡ body-length ID → Decides bytes judged n h many slack first free idle (t + r .length) (o + (len + 2))
+decides-again {bytes} {o = o} d is-instant shown ts x releases offsets i {r} shows-it now is-length = record {
   by-end = omega (arith, used-fits d is-instant shown ts x releases offsets i shows-it now .1);
   same = λ us y others places j. used-again d is-instant shown us y others places j shows-it now is-length;
+  idles-read = λ e.
+      let read = d .idles-read e in (
+        read .0,
+        read .1,
+        idle-some (lent bytes (read .0) .idle-shown o) r (sym shows-it ∙ shown (read .0) (read .1))
+            (λ after seen. rw (is-length, ← idle-after (read .0) bytes o r after seen .0) (read-behind (read .2) seen)),
+      );
 }

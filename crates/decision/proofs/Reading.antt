@@ -1,4 +1,4 @@
--- The tasks' offsets in turn: whether each can be read, on which sets that fit the same arrays agree. Assumes nothing.
+-- Whether offsets can be read, on which sets that fit the same arrays agree; and the tasks' offsets in turn. Assumes nothing.
 use mathlib.Core.Path.{_≡_, refl, sym, _∙_, ap}
 use mathlib.Core.Bool.{Bool, true, false}
 use mathlib.Core.List.{List}
@@ -7,13 +7,14 @@ use native.Mathlib.Omega.{arith}
 use lib.ListN.{getD}
 use Rattle.fields.specs.Body.{head₀, tail₀}
 use Rattle.rules.specs.declared.Task.{Task}
+use Rattle.rules.specs.declared.Idle.{Idle}
 use Rattle.rules.specs.declared.Inversion.{Inversion}
 use Rattle.rules.specs.Tasks.{hyperperiod}
 use Rattle.rules.specs.Priority.{slot}
-use Rattle.rules.specs.Judging.{inversion-in-range}
+use Rattle.rules.specs.Judging.{idle-in-range, inversion-in-range}
 use Rattle.rules.specs.Marks.{Mark, TS, TK, SL, ID, PV, EN, size}
-use Rattle.rules.specs.Image.{to-inversion}
-use Rattle.rules.specs.Offsets.{Shown, unreadable, no-record, shows, Source, record-at, shown-if, inversion-by, lent, readable, tasks-readable}
+use Rattle.rules.specs.Image.{to-idle, to-inversion}
+use Rattle.rules.specs.Offsets.{Shown, unreadable, no-record, shows, Source, record-at, shown-if, idle-by, inversion-by, lent, readable, tasks-readable}
 use Rattle.rules.proofs.Cases.{by-bool, by-option, by-eq, by-le, both-true}
 use Rattle.decision.specs.declared.InversionShown.{InversionShown}
 use Rattle.decision.specs.declared.InversionShown.the-variants.{Unreadable}
@@ -48,11 +49,12 @@ one-unreadable S (suc m) offsets (suc i) l e =
 -- two sets that fit the same arrays
 module _ {ts us : List Task} {h k n : ℕ} {many slack : List ℕ} (fits : SetFits ts h n many slack) (other : SetFits us k n many slack) where
   -- a PV is in its own range for both or for neither
-  same-range : (r : Inversion) → inversion-in-range ts h r ≡ inversion-in-range us k r
+  same-range : (r : Inversion) → inversion-in-range ts (hyperperiod ts) r ≡ inversion-in-range us (hyperperiod us) r
   same-range r =
-      by-le n (r .task) (λ past. sym (no-such-task fits r past) ∙ no-such-task other r past)
+      rw (← set-hyperperiod fits, ← set-hyperperiod other)
+      (by-le n (r .task) (λ past. sym (no-such-task fits r past) ∙ no-such-task other r past)
       (λ a-task. by-le (getD many (r .task) 0) (r .job) (λ past. sym (no-such-job fits r a-task past) ∙ no-such-job other r a-task past)
-      (λ before. sym (its-delay fits r a-task before) ∙ its-delay other r a-task before))
+      (λ before. sym (its-delay fits r a-task before) ∙ its-delay other r a-task before)))
 
   -- so a task's offset shows the same
   same-shown : (bytes : List ℕ) (o : ℕ) → lent bytes ts .inversion-shown o ≡ lent bytes us .inversion-shown o
@@ -64,10 +66,7 @@ module _ {ts us : List Task} {h k n : ℕ} {many slack : List ℕ} (fits : SetFi
       by-mark TK v = refl
       by-mark SL v = refl
       by-mark ID v = refl
-      by-mark PV v =
-          let range : inversion-in-range ts (hyperperiod ts) (to-inversion v) ≡ inversion-in-range us (hyperperiod us) (to-inversion v) =
-          rw (set-hyperperiod fits, set-hyperperiod other) at (same-range (to-inversion v)) in
-          ap (λ (b : Bool). shown-if b (shows (to-inversion v) (o + size PV))) range
+      by-mark PV v = ap (λ (b : Bool). shown-if b (shows (to-inversion v) (o + size PV))) (same-range (to-inversion v))
       by-mark EN v = refl
 
   -- and the offsets of all tasks can be read for the one where they can for the other
@@ -75,6 +74,23 @@ module _ {ts us : List Task} {h k n : ℕ} {many slack : List ℕ} (fits : SetFi
   same-readable bytes offsets e =
       tasks-read-all (lent bytes us) n offsets
       (λ i l. ap readable (sym (same-shown bytes (slot offsets i))) ∙ tasks-read-each (lent bytes ts) n offsets e i l)
+
+-- with one hyperperiod, the ID offset can be read for the one where it can for the other
+pub same-idle-readable : {ts us : List Task} {h n : ℕ} {many slack : List ℕ} → SetFits ts h n many slack → SetFits us h n many slack →
+    (bytes : List ℕ) (o : ℕ) → readable (lent bytes ts .idle-shown o) ≡ true → readable (lent bytes us .idle-shown o) ≡ true
+same-idle-readable {ts} {us} fits other bytes o can =
+    by-option (record-at bytes o) (λ e. rw e (rw e at can)) (λ r e. rw e (sym (by-mark (r .mark) (r .values)) ∙ (rw e at can)))
+  where
+    -- by the mark of a record that is read
+    by-mark : (m : Mark) (v : List ℕ) → readable (idle-by ts o m v) ≡ readable (idle-by us o m v)
+    by-mark TS v = refl
+    by-mark TK v = refl
+    by-mark SL v = refl
+    by-mark ID v =
+        ap (λ (k : ℕ). readable (shown-if (idle-in-range k (to-idle v)) (shows (to-idle v) (o + size ID))))
+        (sym (set-hyperperiod fits) ∙ set-hyperperiod other)
+    by-mark PV v = ap (λ (b : Bool). readable {A = Idle} (shown-if b no-record)) (same-range fits other (to-inversion v))
+    by-mark EN v = refl
 
 -- the answer that it can be read
 told-readable : (k : Shown Inversion) → (Unreadable ≡ inversion-case k → ⊥) → readable k ≡ true

@@ -123,7 +123,13 @@ module _ (bytes : List ℕ) (o len : ℕ) (part : List ℕ) (is-part : part ≡ 
 pub none-told : {told delay : ℕ} → no-delay ≡ told → delay < no-delay → false ≡ eqb told delay
 none-told {told} {delay} e small = sym (ne-eqb told delay (λ g. absurd (omega (arith, e, g, small))))
 
--- the answer that a task's offset cannot be read
+-- the answer that the ID offset cannot be read
+pub idle-unread : (k : Shown Idle) → idle-answer.Unreadable ≡ idle-case k → readable k ≡ false
+idle-unread unreadable e = refl
+idle-unread no-record e = clash (cc)
+idle-unread (shows r after) e = clash (cc)
+
+-- and that a task's offset cannot
 pub inversion-unread : (k : Shown Inversion) → inversion-answer.Unreadable ≡ inversion-case k → readable k ≡ false
 inversion-unread unreadable e = refl
 inversion-unread no-record e = clash (cc)
@@ -244,6 +250,44 @@ module _ (ts : List Task) (bytes : List ℕ) (o : ℕ) where
   -- the record of a PV that stands there
   abbrev pv-there : Inversion
   pv-there = to-inversion (values PV (drop o bytes))
+
+  -- the ID offset, where it can be read
+  module _ (can : readable idle-there ≡ true) where
+    -- no answer tells that it cannot
+    idle-told : {A : Type 0} → idle-answer.Unreadable ≡ idle-case idle-there → A
+    idle-told e = differ (sym can ∙ idle-unread idle-there e)
+
+    -- it stands at a whole ID, PV or EN
+    by-idle-readable : {A : Type 0} → (whole-at bytes o ID ≡ true → A) → (whole-at bytes o PV ≡ true → A) → (whole-at bytes o EN ≡ true → A) → A
+    by-idle-readable id pv en =
+        by-bool (whole-at bytes o ID) id
+        (λ no-id. by-bool (whole-at bytes o PV) pv
+        (λ no-pv. by-bool (whole-at bytes o EN) en (λ no-en. idle-told (nothing-for-idle no-pv no-en no-id))))
+
+    -- it is inside the image
+    pub idle-inside : o < length bytes
+    idle-inside =
+        by-idle-readable (λ w. omega (arith, whole-inside bytes o ID w)) (λ w. omega (arith, whole-inside bytes o PV w))
+        (λ w. omega (arith, whole-inside bytes o EN w))
+
+    -- with another first byte than ID's it shows no record
+    pub no-id-shown : (getD bytes o 0 ≡ row ID .byte₁ → ⊥) → idle-answer.NoRecord ≡ idle-case idle-there
+    no-id-shown other =
+        by-idle-readable (λ w. absurd (other (first-byte bytes o ID w)))
+        (λ w. by-bool (inversion-in-range ts (hyperperiod ts) pv-there) (λ b. no-idle-read _ refl true w _ refl (sym b))
+        (λ b. idle-told (no-idle-read _ refl false w _ refl (sym b))))
+        idle-at-end
+
+    -- with ID's a whole ID stands there
+    pub id-stands : getD bytes o 0 ≡ row ID .byte₁ → whole-at bytes o ID ≡ true
+    id-stands same =
+        by-idle-readable (λ w. w) (λ w. absurd (omega (arith, first-byte bytes o PV w))) (λ w. absurd (omega (arith, first-byte bytes o EN w)))
+
+    -- which is shown
+    pub id-shown : whole-at bytes o ID ≡ true → (r : Idle) → r ≡ to-idle (values ID (drop o bytes)) → idle-answer.Shows r ≡ idle-case idle-there
+    id-shown w r read =
+        by-bool (idle-in-range (hyperperiod ts) r) (λ b. idle-read _ refl true w r read (sym b))
+        (λ b. idle-told (idle-read _ refl false w r read (sym b)))
 
   -- a task's offset that can be read shows a whole PV, or stands at a whole EN
   by-readable : {A : Type 0} → readable inversion-there ≡ true → (whole-at bytes o PV ≡ true → inversion-there ≡ shows pv-there (o + size PV) → A) →

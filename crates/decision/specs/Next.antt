@@ -6,6 +6,7 @@ use mathlib.Core.Option.{Option, none, some}
 use Prim.Native.Nat.{ℕ, _+_, _≤_, _<_}
 use lib.Count.{trailingZeros}
 use Rattle.rules.specs.declared.Task.{Task}
+use Rattle.rules.specs.declared.Idle.{Idle}
 use Rattle.rules.specs.Tasks.{hyperperiod}
 use Rattle.rules.specs.Timetable.{pick}
 use Rattle.rules.specs.Setting.{instant, lowest}
@@ -13,7 +14,7 @@ use Rattle.rules.specs.Priority.{slot, by-priority, setting}
 use Rattle.rules.specs.Decision.{recorded}
 use Rattle.rules.specs.Irregularities.{runs}
 use Rattle.rules.specs.Marks.{PV, size}
-use Rattle.rules.specs.Offsets.{NextStart, next-is, stuck, past-own, readable, tasks-readable, shown-delays, idle-now, lent, next-start}
+use Rattle.rules.specs.Offsets.{no-record, shows, Source, NextStart, next-is, stuck, past-own, readable, tasks-readable, shown-delays, idle-now, lent, next-start}
 use Rattle.decision.specs.declared.NextStart.{NextStart as Answer}
 use Rattle.decision.specs.declared.NextStart.the-variants.{Starts, Stuck}
 use Rattle.decision.specs.Fits.{Fits}
@@ -45,6 +46,16 @@ next-case ts bytes x offsets (stuck number) = Stuck number
 -- the rule book's next start of a set, an image, next job numbers, the instant from which the processor is free, the tasks' offsets and the ID offset
 abbrev pub next-of : List Task → List ℕ → List ℕ → ℕ → List ℕ → ℕ → Answer
 next-of ts bytes x f offsets o = next-case ts bytes x offsets (next-start (setting ts) (lent bytes ts) x f offsets o)
+
+-- from an offset on the source shows idle records, one behind the other, and then none
+pub data IdlesRead (S : Source) : ℕ → Type 0 where
+  none-left : {o : ℕ} → S .idle-shown o ≡ no-record → IdlesRead S o
+  one-more : {o after : ℕ} {r : Idle} → S .idle-shown o ≡ shows r after → IdlesRead S after → IdlesRead S o
+
+-- all offsets can be read, and the ID offset behind every idle record as well
+pub record AllRead (bytes : List ℕ) (ts : List Task) (n : ℕ) (offsets : List ℕ) (idle : ℕ) : Type 0 where
+  pub tasks-read : tasks-readable (lent bytes ts) n offsets ≡ true
+  pub idles-read : IdlesRead (lent bytes ts) idle
 
 -- an offset, or the one past the PV record there
 abbrev pub past-if : Bool → ℕ → ℕ

@@ -18,14 +18,13 @@ ghost use lib.Count.{trailingZeros};
 ghost use lib.ListN.{length};
 ghost use Rattle.rules.specs.declared.Task.{Task};
 ghost use Rattle.rules.specs.Marks as book-marks;
-ghost use Rattle.rules.specs.Offsets.{last-offset, lent, readable, tasks-readable, own-delay, next-start};
-ghost use Rattle.rules.specs.Priority.{setting};
+ghost use Rattle.rules.specs.Offsets.{last-offset, lent, readable, tasks-readable, own-delay};
 ghost use Rattle.images.specs.Table.{mark-of};
 ghost use Rattle.records.specs.Fits.{SetFits};
 ghost use Rattle.decision.specs.Fits.{Fits};
 ghost use Rattle.decision.specs.Shown.{whole-at, idle-case, inversion-case, no-delay, delay-number};
 ghost use Rattle.decision.specs.Waiting.{mask-of, come-by, set-bit, clear-bit, least-of};
-ghost use Rattle.decision.specs.Next.{next-case, next-of, past-if, Choosing, IsChosen, StartsAt, Idling, IdledTo};
+ghost use Rattle.decision.specs.Next.{IdlesRead, AllRead, next-of, past-if, Choosing, IsChosen, StartsAt, Idling, IdledTo};
 
 // The largest number of 32 bits: no record's delay, and the byte at or before which every record ends.
 const LAST: u32 = 4294967295;
@@ -58,19 +57,39 @@ pub enum IdleShown {
     Shows(Idle),
 }
 
-// At the ID offset stands a whole ID, PV or EN; a record outside its own range is unreadable.
+// What an ID offset which can be read shows. There stands an ID, PV or EN, and the first byte tells an ID from the others.
+fn idle_judged(image: &[u8], o: u32) -> IdleShown
+    requires { ⌜ ((ts : List Task) × (readable (lent (now image) ts .idle-shown o) ≡ true)) ⌝ }
+    ensures { λ r. ⌜ ((ts : List Task) → readable (lent (now (image .entry)) ts .idle-shown o) ≡ true →
+        r ≡ idle-case (lent (now (image .entry)) ts .idle-shown o)) ⌝ }
+{
+    let at = o as usize;
+    if image[at] != row_of(ID).first {
+        return IdleShown::NoRecord;
+    }
+    let r = images::idle_body(images::part(image, at + 2, body_of(ID)));
+    IdleShown::Shows(r)
+}
+
+// At the ID offset stands a whole ID, PV or EN; a record outside its own range is unreadable. Where the image's records were judged and the offset
+// stands among them, it can be read, and the first byte tells.
 fn idle_shown(
     image: &[u8],
+    judged: bool,
     n: usize,
     h: u32,
     jobs: &[u32; 16],
     slack: &[u32; 16],
     o: u32,
 ) -> IdleShown
-    requires { ⌜ n ≤ 16 ⌝ }
+    requires { ⌜ (n ≤ 16) × (judged ≡ true → ((ts : List Task) × SetFits ts h n (now jobs) (now slack)
+        × (readable (lent (now image) ts .idle-shown o) ≡ true))) ⌝ }
     ensures { λ r. ⌜ ((ts : List Task) → SetFits ts h n (now (jobs .entry)) (now (slack .entry)) →
         r ≡ idle-case (lent (now (image .entry)) ts .idle-shown o)) ⌝ }
 {
+    if judged {
+        return idle_judged(image, o);
+    }
     let at = o as usize;
     if whole(image, o, ID) {
         let r = images::idle_body(images::part(image, at + 2, body_of(ID)));
@@ -396,6 +415,7 @@ pub struct Idled {
 // Past the idle records that are used, one at each decision, from a free instant, the least release and an ID offset.
 fn past_idles(
     image: &[u8],
+    judged: bool,
     n: usize,
     h: u32,
     jobs: &[u32; 16],
@@ -404,7 +424,8 @@ fn past_idles(
     free: u32,
     idle: u32,
 ) -> Idled
-    requires { ⌜ ((ts : List Task) × (x releases offsets : List ℕ) × Idling ts (now image) h n (now jobs) (now slack) x releases offsets first) × (free ≤ h) ⌝ }
+    requires { ⌜ ((ts : List Task) × (x releases offsets : List ℕ) × Idling ts (now image) h n (now jobs) (now slack) x releases offsets first
+        × (judged ≡ true → IdlesRead (lent (now image) ts) idle)) × (free ≤ h) ⌝ }
     ensures { λ r. ⌜ ((ts : List Task) (x releases offsets : List ℕ) →
         Idling ts (now (image .entry)) h n (now (jobs .entry)) (now (slack .entry)) x releases offsets first →
         IdledTo ts (now (image .entry)) h n (now (slack .entry)) x releases offsets free idle r) ⌝ }
@@ -413,7 +434,7 @@ fn past_idles(
     let mut o = idle;
     'decisions: loop {
         let t = later(from, first);
-        match idle_shown(image, n, h, jobs, slack, o) {
+        match idle_shown(image, judged, n, h, jobs, slack, o) {
             IdleShown::Unreadable => {
                 break 'decisions Idled {
                     readable: false,
@@ -445,7 +466,7 @@ fn past_idles(
 
 // The next start from what has started, the instant from which the processor is free, the ID offset and the tasks' offsets. Of the set it takes n, H
 // and, for each task, its jobs a cycle, D − C, the number of its next job and that job's release, which is H or later where no job is left. Where the
-// image's records were judged and the tasks' offsets stand among them, these are not tested again.
+// image's records were judged and all offsets stand among them, these are not tested again.
 pub fn next_start(
     image: &[u8],
     judged: bool,
@@ -460,15 +481,24 @@ pub fn next_start(
     offsets: &[u32; 16],
 ) -> NextStart
     requires { ⌜ ((ts : List Task) × Fits ts h n (now jobs) (now slack) (now next) (now release)
-        × (judged ≡ true → tasks-readable (lent (now image) ts) n (now offsets) ≡ true)) × (free ≤ h) ⌝ }
+        × (judged ≡ true → AllRead (now image) ts n (now offsets) idle)) × (free ≤ h) ⌝ }
     ensures { λ r. ⌜ ((ts : List Task) → Fits ts h n (now (jobs .entry)) (now (slack .entry)) (now (next .entry)) (now (release .entry)) →
-        r ≡ next-case ts (now (image .entry)) (now (next .entry)) (now (offsets .entry))
-        (next-start (setting ts) (lent (now (image .entry)) ts) (now (next .entry)) free (now (offsets .entry)) idle)) ⌝ }
+        r ≡ next-of ts (now (image .entry)) (now (next .entry)) free (now (offsets .entry)) idle) ⌝ }
 {
     if !tasks_readable(image, judged, n, jobs, slack, offsets) {
         return NextStart::Stuck(25);
     }
-    let d = past_idles(image, n, h, jobs, slack, least(n, h, release), free, idle);
+    let d = past_idles(
+        image,
+        judged,
+        n,
+        h,
+        jobs,
+        slack,
+        least(n, h, release),
+        free,
+        idle,
+    );
     if !d.readable {
         return NextStart::Stuck(25);
     }

@@ -19,7 +19,7 @@ use Rattle.rules.proofs.Cases.{first-none, or-else-gives}
 use Rattle.rules.proofs.GoodSets.{good-set}
 use Rattle.rules.proofs.BeginOrder.{begin-refuses}
 use Rattle.rules.proofs.Serving.{slot-zeros}
-use Rattle.tables.specs.Releases.{tasks-of}
+use Rattle.replay.specs.Releases.{tasks-of}
 use Rattle.tables.specs.Judged.{Good, JudgedAs}
 use Rattle.tables.specs.declared.Tables.{Tables as Judgement}
 

@@ -12,7 +12,7 @@ use Rattle.numbers.specs.Numbers.{slots-from, slots, number-at, task-from, stat
 use Rattle.numbers.proofs.FilledSlots.{sixteen}
 use Rattle.records.specs.Tables.{Filled}
 use Rattle.records.proofs.Arrays.{slot-element}
-use Rattle.tables.proofs.NextReleases.{task-in-slot}
+use Rattle.replay.proofs.NextReleases.{task-in-slot}
 
 module _ {A : Type 0} (value : ℕ → A) (d : A) where
   -- what stands in the k-th of so many slots

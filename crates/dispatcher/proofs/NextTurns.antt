@@ -33,9 +33,9 @@ use Rattle.numbers.specs.declared.Move.{Move}
 use Rattle.numbers.specs.Going.{turn-of}
 use Rattle.records.specs.Fits.{SetFits}
 use Rattle.decision.specs.Fits.{Fits}
-use Rattle.tables.specs.Releases.{tasks-of, releases-of, ReleasesFit, none-before}
-use Rattle.tables.proofs.NextReleases.{releases-there}
-use Rattle.tables.proofs.Walk.{all-past-started}
+use Rattle.replay.specs.Releases.{tasks-of, releases-of, ReleasesFit, none-before}
+use Rattle.replay.proofs.NextReleases.{releases-there}
+use Rattle.replay.proofs.Walk.{all-past-started}
 use Rattle.dispatcher.specs.Tested.{last-and-in-time}
 use Rattle.dispatcher.specs.States.{WithGoodSet, CanGoOn, StartFrom, Makes}
 use Rattle.dispatcher.proofs.Zeros.{fails-first, fails-later, fails-as, passes-as}

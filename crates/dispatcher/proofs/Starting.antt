@@ -1,8 +1,8 @@
 -- The next start of a state, as the code makes it out of what it was answered. Assumes nothing.
-use mathlib.Core.Path.{_≡_, refl, sym, _∙_, ap}
+use mathlib.Core.Path.{_≡_, sym, _∙_, ap}
 use mathlib.Core.Bool.{Bool}
 use mathlib.Core.List.{List}
-use Prim.Native.Nat.{ℕ, zero, suc, _+_, _*_, _≤_, _<_}
+use Prim.Native.Nat.{ℕ, _+_, _*_, _<_}
 use native.Mathlib.Omega.{arith}
 use native.Mathlib.Nat.{div-le-self}
 use lib.ListN.{length, getD, set}
@@ -11,54 +11,24 @@ use Rattle.rules.specs.declared.StartAnswer.the-variants.{Start}
 use Rattle.rules.specs.declared.Dispatcher.{Dispatcher as State}
 use Rattle.rules.specs.declared.Turn.{Turn}
 use Rattle.rules.specs.Refusals.{refusal}
-use Rattle.rules.specs.Tasks.{GoodSet, task, jobs, hyperperiod}
-use Rattle.rules.specs.Setting.{instant}
+use Rattle.rules.specs.Tasks.{GoodSet, task, hyperperiod}
 use Rattle.rules.specs.Priority.{slot, start-job, setting}
-use Rattle.rules.specs.Offsets.{lent, past-idle, past-own, put-slot, NextStart, next-is, stuck, next-start}
+use Rattle.rules.specs.Offsets.{lent, past-own, put-slot, NextStart, next-is, stuck, next-start}
 use Rattle.rules.specs.Dispatcher.{stopped, set-of, refused, started, start-next}
 use Rattle.rules.proofs.Cases.{clash}
-use Rattle.rules.proofs.PriorityLaws.{keeps-rules, setting-laws}
-use Rattle.rules.proofs.GoodSets.{good-rules, set-good}
+use Rattle.rules.proofs.GoodSets.{set-good}
 use Rattle.rules.proofs.StuckStarts.{by-next}
-use Rattle.rules.proofs.NextTurns.{next-unreadable, next-idles, idle-ends, next-starts, next-refused, by-one-turn}
 use Rattle.numbers.specs.declared.Going.the-variants.{Moves}
 use Rattle.numbers.specs.Going.{cycle-from, next-from, inversions-from, turn-of}
 use Rattle.decision.specs.declared.Found.{Found}
 use Rattle.decision.specs.declared.NextStart.{NextStart as Answer}
 use Rattle.decision.specs.declared.NextStart.the-variants.{Starts, Stuck}
 use Rattle.decision.specs.Fits.{Fits}
-use Rattle.decision.specs.Next.{inverts, next-case}
+use Rattle.decision.specs.Next.{inverts, next-case, next-of}
 use Rattle.records.proofs.Arrays.{slot-element}
-use Rattle.tables.proofs.Stores.{start-stores, put-stores}
+use Rattle.replay.proofs.Stores.{start-stores, put-stores}
+use Rattle.replay.proofs.Running.{found-left}
 use Rattle.dispatcher.proofs.Slots.{put-next}
-
-module _ (bytes : List ℕ) {ts : List Task} (good : GoodSet ts (hyperperiod ts)) (x : List ℕ) (offsets : List ℕ) (i t w : ℕ) where
-  -- task i is of the set and has a job left
-  abbrev Left : Type 0
-  Left = (i < length ts) × (slot x i < jobs (hyperperiod ts) (task ts i))
-
-  -- a start that is found is of such a task: in turns that are enough for what is left of the cycle
-  found-in : (turns : ℕ) (f o : ℕ) → hyperperiod ts < turns + f → 1 ≤ turns →
-      next-start (setting ts) (lent bytes ts) x f offsets o ≡ next-is i t w → Left
-  found-in zero f o past some e = absurd (omega arith)
-  found-in (suc turns) f o past some e =
-      let now : ℕ = instant (setting ts) x f in
-      by-one-turn bytes ts x f now offsets o refl
-      (λ a. let g : stuck 25 ≡ next-is i t w = sym (next-unreadable bytes ts x f now offsets o refl a) ∙ e in clash (cc))
-      (λ l a d. let k = idle-ends bytes ts x f now offsets o refl l d in
-      found-in turns (now + l) (past-idle (lent bytes ts .idle-shown o) o) (omega arith) (omega arith)
-      (sym (next-idles bytes ts x f now offsets o refl l a d) ∙ e))
-      (λ j a d k.
-      let g : next-is j now o ≡ next-is i t w = sym (next-starts bytes ts x f now offsets o refl j a d k) ∙ e in
-      let same : j ≡ i = cc in
-      let none-broken = setting-laws ts (hyperperiod ts) (good-rules good) .replay-refuses x now j now k in
-      let keep = keeps-rules ts (hyperperiod ts) x now j now none-broken in
-      rw (← same) (keep .a-task, keep .left))
-      (λ j m a d k. let g : stuck (suc m) ≡ next-is i t w = sym (next-refused bytes ts x f now offsets o refl j m a d k) ∙ e in clash (cc))
-
-  -- and so in all turns
-  pub found-left : (f o : ℕ) → next-start (setting ts) (lent bytes ts) x f offsets o ≡ next-is i t w → Left
-  found-left f o e = found-in (suc (hyperperiod ts)) f o (omega arith) (omega arith) e
 
 -- the turn that starts a job: of a state, in a cycle, with next job numbers and offsets after it
 abbrev pub turn-with : State → ℕ → ℕ → ℕ → ℕ → ℕ → List ℕ → ℕ → List ℕ → Turn
@@ -77,8 +47,7 @@ turn-with d c i job time start next o offsets = record {
 -- a next start as it was answered, in a state whose set and next job numbers the arrays fit
 module _ (bytes : List ℕ) (d : State) {h n : ℕ} {many slack x releases : List ℕ} (fits : Fits (set-of d) h n many slack x releases)
     (f : ℕ) (offsets : List ℕ) (o : ℕ) (answer : Answer)
-    (is : (ts : List Task) → Fits ts h n many slack x releases →
-    answer ≡ next-case ts bytes x offsets (next-start (setting ts) (lent bytes ts) x f offsets o)) where
+    (is : (ts : List Task) → Fits ts h n many slack x releases → answer ≡ next-of ts bytes x f offsets o) where
   -- the rule book's next start
   abbrev in-book : NextStart
   in-book = next-start (setting (set-of d)) (lent bytes (set-of d)) x f offsets o
@@ -122,7 +91,8 @@ module _ (bytes : List ℕ) (d : State) {h n : ℕ} {many slack x releases : Lis
       (λ i t w g same.
       let good : GoodSet (set-of d) (hyperperiod (set-of d)) = rw cycle-is at (fits .set .good) in
       let left = found-left bytes good x offsets i t w f o g in
-      rw (← same) (omega (arith, left .0, fits .set .n-tasks), omega (arith, left .1, cycle-is, div-le-self (hyperperiod (set-of d)) (task (set-of d) i .period))))
+      let at-most = div-le-self (hyperperiod (set-of d)) (task (set-of d) i .period) in
+      rw (← same) (omega (arith, left .0, fits .set .n-tasks), omega (arith, left .1, cycle-is, at-most)))
 
   -- the turn that makes the start
   found-turn : (c : ℕ) (found : Found) → answer ≡ Starts found →

@@ -113,9 +113,8 @@ fn start_next(
     ensures { λ r. ⌜ r ≡ book.start-next (now (image .entry)) d cycle next free offsets idle ⌝ }
 {
     let n = d.set.n as usize;
-    match decision::next_start(
+    match replay::one_start(
         image,
-        false,
         n,
         h,
         jobs,
@@ -232,19 +231,7 @@ fn moves(
         StartFrom d again n h (now (jobs .entry)) (now (slack .entry)) cycle (now (next .entry)) (now (release .entry)) (now (offsets .entry)) →
         Makes d (book.start-next (now (image .entry)) d cycle (now (next .entry)) free (now (offsets .entry)) idle) r) ⌝ }
 {
-    match decision::next_start(
-        image,
-        false,
-        n,
-        h,
-        jobs,
-        slack,
-        next,
-        release,
-        free,
-        idle,
-        offsets,
-    ) {
+    match replay::one_start(image, n, h, jobs, slack, next, release, free, idle, offsets) {
         NextStart::Stuck(_) => Going::Stops(25),
         NextStart::Starts(f) => {
             let i = f.task as usize;
@@ -278,7 +265,7 @@ fn next_going(
     let next = numbers::numbers_from(numbers, 65);
     let offsets = numbers::numbers_from(numbers, 86);
     let cycle = numbers[81];
-    if tables::all_started(n, h, release) {
+    if replay::all_started(n, h, release) {
         if cycle < LAST {
             let zeros = [0u32; 16];
             let first = numbers::numbers_from(numbers, 103);
@@ -445,7 +432,7 @@ pub fn begin(image: &[u8]) -> Turn
     let h = t.hyperperiod;
     let jobs = records::jobs_of(h, set);
     let slack = records::slack_of(set);
-    let release = tables::releases_of(set, &zeros);
+    let release = replay::releases_of(set, &zeros);
     let offsets = first.inversions;
     start_next(
         image,

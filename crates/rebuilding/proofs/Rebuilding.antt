@@ -1,6 +1,6 @@
 -- Rebuilding from a table image that is judged: the refusal that it was judged with, no room, or the image of its timetable. Assumes nothing.
 use mathlib.Core.Path.{_≡_, sym, _∙_, ap, ap₂}
-use mathlib.Core.List.{List, [], _∷_, _++_, map, map-append}
+use mathlib.Core.List.{List, [], _∷_, map}
 use mathlib.Core.Option.{none}
 use Prim.Native.Nat.{ℕ, suc, _+_, _*_, _≤_, _<_}
 use native.Mathlib.Omega.{arith}
@@ -29,9 +29,9 @@ use Rattle.rules.proofs.ValidTimetables.{no-fault-valid, valid-length}
 use Rattle.rules.proofs.Images.{records-length, timetable-image-length}
 use Rattle.tables.specs.declared.Tables.{Tables as Judgement}
 use Rattle.tables.specs.Judged.{Good}
-use Rattle.tables.specs.Releases.{tasks-of}
+use Rattle.replay.specs.Releases.{tasks-of}
 use Rattle.writing.specs.Writing.{put-at, record-put, behind-tasks}
-use Rattle.writing.proofs.ImagePut.{next-put, image-put}
+use Rattle.writing.proofs.ImagePut.{image-put}
 use Rattle.rebuilding.specs.Rebuilt.{TimetableBehind, entries-bytes, entries-put}
 
 -- tables that are judged with a timetable: the set and the records have no fault
@@ -60,15 +60,8 @@ pub behind-good : {bytes : List ℕ} {t : Judgement} (g : Good bytes t) → Time
 behind-good g = record { tables = g .tables; few = g .few; read = g .read; judged = g .judged; cycle = g .cycle; offsets = g .offsets }
 
 -- the bytes of entries are as long as so many SL records
-entries-length : (τ : List Entry) → length (entries-bytes τ) ≡ length τ * size SL
+pub entries-length : (τ : List Entry) → length (entries-bytes τ) ≡ length τ * size SL
 entries-length τ = records-length SL (map of-entry τ) ∙ ap (λ (n : ℕ). n * size SL) (length-map τ of-entry)
-
--- one entry more put behind those before it
-pub entry-put : (out : List ℕ) (n : ℕ) (σ : List Entry) (e : Entry) (at : ℕ) → at ≡ behind-tasks n + length σ * size SL → at + size SL ≤ length out →
-    record-put (entries-put out n σ) at (record-of SL (of-entry e)) ≡ entries-put out n (σ ++ (e ∷ []))
-entry-put out n σ e at at-is room =
-    next-put SL (map of-entry σ) (of-entry e) out (behind-tasks n) at (omega (arith, length-map σ of-entry)) room
-    ∙ ap (λ (vs : List (List ℕ)). put-at out (behind-tasks n) (image (records SL vs))) (sym (map-append of-entry σ (e ∷ [])))
 
 module _ (bytes : List ℕ) (s : TaskSet) (h : ℕ) (first-at : Offsets) (τ : List Entry) (g : TimetableBehind bytes s h first-at τ) where
   abbrev ts : List Task

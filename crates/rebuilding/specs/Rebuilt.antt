@@ -14,7 +14,7 @@ use Rattle.rules.specs.Marks.{SL, size}
 use Rattle.rules.specs.Image.{image, records, of-entry}
 use Rattle.rules.specs.Offsets.{first-offsets}
 use Rattle.rules.specs.Operations.{read-tables}
-use Rattle.tables.specs.Releases.{tasks-of}
+use Rattle.replay.specs.Releases.{tasks-of}
 use Rattle.writing.specs.Writing.{put-at, behind-tasks}
 
 -- an accepted image: its set with the hyperperiod, its tables with the offsets as at a cycle's start, and the timetable behind them

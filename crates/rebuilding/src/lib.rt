@@ -1,9 +1,7 @@
 // Rebuilding: the timetable image of a table image. The image is accepted first; a second replay writes the entries.
-use decision::NextStart;
 use images::EN;
 use images::ROWS;
 use images::SL;
-use rules::Entry;
 use rules::MakeAnswer;
 use rules::Offsets;
 use rules::Refusal;
@@ -13,7 +11,7 @@ ghost use mathlib.Core.List.{List};
 ghost use Rattle.rules.specs.declared.Entry as book-entry;
 ghost use Rattle.rules.specs.Tasks.{all-jobs};
 ghost use Rattle.rules.specs.Operations.{rebuild as rebuilds, rebuild-output};
-ghost use Rattle.tables.specs.Releases.{tasks-of};
+ghost use Rattle.replay.specs.Releases.{tasks-of};
 ghost use Rattle.rebuilding.specs.Rebuilt.{TimetableBehind, entries-put, CanPut};
 
 // The entries of the rebuilt timetable, one behind the other behind the tasks.
@@ -25,54 +23,17 @@ fn put_entries(image: &[u8], s: TaskSet, h: u32, first: Offsets, starts: usize, 
     let n = s.n as usize;
     let jobs = records::jobs_of(h, s);
     let slack = records::slack_of(s);
-    let mut next = [0u32; 16];
-    let mut release = tables::releases_of(s, &next);
-    let mut offsets = first.inversions;
-    let mut idle = first.idle;
-    let mut free: u32 = 0;
-    let mut at = records::first_record(n);
-    let mut j: usize = 0;
-    'starts: loop {
-        if starts <= j {
-            break 'starts;
-        }
-        match decision::next_start(
-            image,
-            true,
-            n,
-            h,
-            &jobs,
-            &slack,
-            &next,
-            &release,
-            free,
-            idle,
-            &offsets,
-        ) {
-            NextStart::Stuck(_) => {
-                break 'starts;
-            }
-            NextStart::Starts(f) => {
-                let i = f.task as usize;
-                let t = s.tasks[i];
-                writing::put_entry(
-                    out,
-                    at,
-                    Entry {
-                        task: f.task,
-                        start: f.start,
-                    },
-                );
-                offsets[i] = f.inversion;
-                idle = f.idle;
-                next[i] += 1;
-                release[i] += t.period;
-                free = f.start + t.time;
-                at += ROWS[SL].body + 2;
-                j += 1;
-            }
-        }
-    }
+    replay::cycle(
+        image,
+        s,
+        h,
+        &jobs,
+        &slack,
+        first,
+        starts,
+        out,
+        records::first_record(n),
+    );
 }
 
 // Rebuilding: the timetable image of a table image at the front of the output, and nothing else changed.

@@ -1,29 +1,45 @@
 -- What is kept of a good set in arrays: its jobs a cycle, and D − C of each task. Assumes nothing.
 use mathlib.Core.Path.{_≡_, sym, _∙_, ap}
 use mathlib.Core.List.{List, map}
-use Prim.Native.Nat.{ℕ, _-_, _≤_, _<_}
+use Prim.Native.Nat.{ℕ, _+_, _-_, _≤_, _<_}
 use native.Mathlib.Omega.{arith}
-use lib.ListN.{length, getD, take, length-map, List·getD-map}
+use lib.ListN.{length, getD, set, take, length-map, List·getD-map}
 use lib.Seq.{getD-take, length-take-le}
 use Rattle.rules.specs.declared.Task.{Task}
 use Rattle.rules.specs.declared.TaskSet.{TaskSet}
-use Rattle.rules.specs.Tasks.{no-task, task, jobs, GoodSet}
+use Rattle.rules.specs.Tasks.{limits, no-task, task, jobs, GoodSet}
 use Rattle.rules.specs.Priority.{slot}
 use Rattle.records.specs.Fits.{SetFits, InTime, SlackOf}
 use Rattle.rules.specs.Dispatcher.{zero-task, zeros}
 use Rattle.records.specs.Tables.{Filled}
-use Rattle.records.proofs.Arrays.{slot-element, inside-alike, zeros-zero}
+use Rattle.records.proofs.Arrays.{slot-element, inside-alike, same-slots, zeros-zero, filled-more}
 
 -- the task that is read from a slot inside a list
 pub task-read : (slots : List Task) (i : ℕ) → i < length slots → getD slots i zero-task ≡ task slots i
 task-read slots i l = inside-alike slots i zero-task no-task l
 
--- a task's slot holds its jobs
-pub jobs-in-slot : (h : ℕ) (ts : List Task) (i : ℕ) (d : Task) → i < length ts → slot (map (jobs h) ts) i ≡ jobs h (getD ts i d)
-jobs-in-slot h ts i d l =
-    slot-element (map (jobs h) ts) i
-    ∙ inside-alike (map (jobs h) ts) i 0 (jobs h d) (omega (arith, length-map ts (jobs h)))
-    ∙ List·getD-map (jobs h) ts i d
+-- a value of each task, such as its jobs a cycle
+module _ (value : Task → ℕ) (ts : List Task) where
+  -- a task's slot holds its value
+  pub value-in-slot : (i : ℕ) (d : Task) → i < length ts → slot (map value ts) i ≡ value (getD ts i d)
+  value-in-slot i d l =
+      slot-element (map value ts) i
+      ∙ inside-alike (map value ts) i 0 (value d) (omega (arith, length-map ts value))
+      ∙ List·getD-map value ts i d
+
+  -- an array that is filled with them up to a slot
+  abbrev pub ValuesTo : ℕ → List ℕ → Type 0
+  ValuesTo i now = Filled zeros (slot (map value ts)) 0 i now
+
+  -- with one more stored
+  pub value-more : {i : ℕ} {now : List ℕ} → ValuesTo i now → length ts ≡ limits .tasks → i < limits .tasks → (d : Task) →
+      ValuesTo (i + 1) (set now i (value (getD ts i d)))
+  value-more {i} f slots l d = filled-more f _ (omega arith) (omega arith) (sym (value-in-slot i d (omega arith)))
+
+  -- with all
+  pub values-all : {i : ℕ} {now : List ℕ} → ValuesTo i now → length ts ≡ limits .tasks → limits .tasks ≤ i → now ≡ map value ts
+  values-all {i} {now} f slots l =
+      same-slots now (map value ts) (f .slots ∙ omega (arith, length-map ts value)) (λ k m. f .inside k (omega arith) (omega (arith, f .slots)))
 
 module _ (s : TaskSet) {ts : List Task} {h : ℕ} (good : GoodSet ts h) (same : take (s .n) (s .tasks) ≡ ts) (room : s .n ≤ length (s .tasks)) where
   -- there are n tasks
@@ -47,7 +63,7 @@ module _ (s : TaskSet) {ts : List Task} {h : ℕ} (good : GoodSet ts h) (same : 
     good = good;
     n-tasks = counted;
     few = omega (arith, counted, good .few-tasks);
-    jobs-there = λ i l. rw e (jobs-in-slot h (s .tasks) i no-task (omega arith) ∙ ap (jobs h) (in-slot i l));
+    jobs-there = λ i l. rw e (value-in-slot (jobs h) (s .tasks) i no-task (omega arith) ∙ ap (jobs h) (in-slot i l));
     slack-there = λ i l. f .of-tasks i l ∙ ap (λ (t : Task). t .deadline - t .time) (in-slot i l);
   }
 

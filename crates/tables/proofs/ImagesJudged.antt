@@ -49,9 +49,9 @@ use Rattle.records.specs.Told.{CanJudge, RecordsTold}
 use Rattle.records.proofs.SetKept.{in-time, fits}
 use Rattle.records.proofs.RecordsRead.{idles-length, inversions-length, tables-framed}
 use Rattle.records.proofs.OffsetsTold.{tasks-below}
+use Rattle.replay.specs.Releases.{tasks-of}
 use Rattle.tables.specs.declared.Tables.{Tables as Judgement}
-use Rattle.tables.specs.Releases.{tasks-of}
-use Rattle.tables.specs.Replayed.{refusal-in, RefusalTold, CanReplay}
+use Rattle.tables.specs.Replayed.{refusal-in, RefusalTold, CanCompare}
 use Rattle.tables.specs.Judged.{SetStands, refused-with, Good, JudgedAs}
 
 -- what refuses an image has a number
@@ -217,15 +217,17 @@ module _ {bytes : List ℕ} {s : TaskSet} {f : Figures} {l : Layout} (b : Bytes 
           first-is = offsets-are (tasks-of s) (its-tasks-many bytes b (st .framed) (st .set-is))
 
           -- its tables can be replayed
-          pub can-replay : CanReplay bytes s (f .hyperperiod) many slack (l .listed) first
-          can-replay = record {
-            tables = X;
-            read = read-so bytes b (st .framed) (st .set-is);
-            good = no-fault;
-            records-good = records-good;
-            fits = its-fits;
+          pub can-compare : CanCompare bytes s (f .hyperperiod) many slack (l .listed) first
+          can-compare = record {
+            can = record {
+              tables = X;
+              read = read-so bytes b (st .framed) (st .set-is);
+              good = no-fault;
+              records-good = records-good;
+              fits = its-fits;
+              first-is = first-is;
+            };
             idle-records = sym (idles-length bytes (records-offset (s .n)) (l .listed));
-            first-is = first-is;
           }
 
           module _ (q : Refusal) (replayed : RefusalTold (rebuilt bytes) q) where

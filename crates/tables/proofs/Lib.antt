@@ -1,6 +1,3 @@
-pub mod Stores
-pub mod NextReleases
-pub mod Walk
 pub mod Replaying
 pub mod ImagesJudged
 pub mod Promises

@@ -2,14 +2,12 @@
 -- valid timetable has; a refusal for exactly the first test that refuses; and that timetable is the only one. Assumes nothing.
 use mathlib.Core.Path.{_≡_, sym, _∙_, ap, ap₂}
 use mathlib.Core.Logic.{_↔_}
-use mathlib.Core.Bool.{Bool}
 use mathlib.Core.List.{List, _++_}
 use Prim.Native.Nat.{ℕ, _-_}
 use native.Mathlib.Omega.{arith}
 use lib.ListN.{length, replicate}
 use Rattle.fields.specs.Number.{Bytes}
 use Rattle.rules.specs.declared.Task.{Task}
-use Rattle.rules.specs.declared.TaskSet.{TaskSet}
 use Rattle.rules.specs.declared.Entry.{Entry}
 use Rattle.rules.specs.declared.Refusal.{Refusal}
 use Rattle.rules.specs.declared.CheckAnswer.{CheckAnswer}
@@ -23,8 +21,8 @@ use Rattle.rules.specs.Promised.{TableImage, RefusesTableImage}
 use Rattle.rules.proofs.Cases.{by-nat, clash, gives-in}
 use Rattle.rules.proofs.Demand2.{rebuilds}
 use Rattle.rules.proofs.Promises as book
+use Rattle.replay.specs.Releases.{tasks-of}
 use Rattle.tables.specs.declared.Tables.{Tables as Judgement}
-use Rattle.tables.specs.Releases.{tasks-of, releases-of, none-before}
 use Rattle.tables.specs.Judged.{refused-with, Good, JudgedAs}
 
 -- the contract of `check` leaves one answer
@@ -43,13 +41,6 @@ pub refused-exactly : (bytes : List ℕ) (r : CheckAnswer) → r ≡ check-table
 refused-exactly bytes r e q =
     let exactly = book.table-order bytes q in
     (λ a. exactly .0 (sym e ∙ a), λ w. e ∙ exactly .1 w)
-
--- the contracts of `releases_of` and `all_started` leave one answer
-pub one-array : (s : TaskSet) (next r q : List ℕ) → r ≡ releases-of s next → q ≡ releases-of s next → r ≡ q
-one-array s next r q e f = e ∙ sym f
-
-pub one-test : (n h : ℕ) (releases : List ℕ) (r q : Bool) → r ≡ none-before n h releases → q ≡ none-before n h releases → r ≡ q
-one-test n h releases r q e f = e ∙ sym f
 
 -- what an accepted image comes to
 good-rebuilt : {bytes : List ℕ} {t : Judgement} (g : Good bytes t) →

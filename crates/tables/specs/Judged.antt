@@ -18,8 +18,8 @@ use Rattle.rules.specs.Offsets.{first-offsets}
 use Rattle.rules.specs.Operations.{read-tables, rebuilt}
 use Rattle.rules.specs.Dispatcher.{zero-task, zero-offsets}
 use Rattle.framing.specs.SetRead.{set-read}
+use Rattle.replay.specs.Releases.{tasks-of}
 use Rattle.tables.specs.declared.Tables.{Tables as Judgement}
-use Rattle.tables.specs.Releases.{tasks-of}
 
 -- a framed image whose set is good
 pub record SetStands (bytes : List ℕ) (s : TaskSet) (f : Figures) (l : Layout) : Type 0 where

@@ -1,3 +1,2 @@
-pub mod Releases
 pub mod Replayed
 pub mod Judged

@@ -1,5 +1,4 @@
-// Table images: framing, the set, records in turn, then replay and comparison in one pass through a cycle; and plain checking. No heap and no table
-// of jobs; memory beside the arguments is a few arrays of 16.
+// Table images: framing, the set, records in turn, then replay and comparison in one pass through a cycle; and plain checking.
 use decision::NextStart;
 use framing::FrameAnswer;
 use images::ID;
@@ -14,63 +13,14 @@ use rules::SetAnswer;
 use rules::Task;
 use rules::TaskSet;
 ghost use mathlib.Core.Path.{_≡_};
-ghost use Prim.Native.Nat.{_≤_};
 ghost use Rattle.rules.specs.Tasks.{all-jobs};
 ghost use Rattle.rules.specs.Operations.{rebuilt, check-tables};
-ghost use Rattle.tables.specs.Releases.{tasks-of, releases-of, ReleasesFit, none-before};
-ghost use Rattle.tables.specs.Replayed.{RefusalTold, wasted-after, Ended, unused-at, CanReplay};
+ghost use Rattle.replay.specs.Releases.{tasks-of};
+ghost use Rattle.tables.specs.Replayed.{RefusalTold, Ended, unused-at, CanCompare};
 ghost use Rattle.tables.specs.Judged.{SetStands, refused-with, JudgedAs};
 
 // No offset is this one: no record is wasted.
 const NONE: u32 = 4294967295;
-
-// The release of the next job of each of n tasks, by their next job numbers; the other slots are 0.
-pub fn releases_of(s: TaskSet, next: &[u32; 16]) -> [u32; 16]
-    requires { ⌜ ReleasesFit s (now next) ⌝ }
-    ensures { λ r. ⌜ r ≡ releases-of s (now (next .entry)) ⌝ }
-{
-    let n = s.n as usize;
-    let mut release = [0u32; 16];
-    let mut i: usize = 0;
-    while i < n {
-        let t = s.tasks[i];
-        release[i] = t.offset + next[i] * t.period;
-        i += 1;
-    }
-    release
-}
-
-// Have all jobs of the cycle started: is no next release before its end?
-pub fn all_started(n: usize, h: u32, release: &[u32; 16]) -> bool
-    requires { ⌜ n ≤ 16 ⌝ }
-    ensures { λ r. ⌜ r ≡ none-before n h (now (release .entry)) ⌝ }
-{
-    let mut i: usize = 0;
-    while i < n {
-        if release[i] < h {
-            return false;
-        }
-        i += 1;
-    }
-    true
-}
-
-// The least offset of a record that had no effect, after a start from a task's offset to the one behind it: its own record, if that is where the
-// offset was, had none where no lower-numbered task was waiting.
-fn wasted_after(wasted: u32, offset: u32, behind: u32, inverts: bool) -> u32
-    ensures { λ r. ⌜ r ≡ wasted-after wasted offset behind inverts ⌝ }
-{
-    if behind == offset {
-        return wasted;
-    }
-    if inverts {
-        return wasted;
-    }
-    if offset < wasted {
-        return offset;
-    }
-    wasted
-}
 
 // 19 at the first ID record that is left, else at the first PV record that had no effect. Number 0 where there is none.
 fn unused(n: usize, idles: usize, first: u32, idle: u32, wasted: u32) -> Refusal
@@ -97,8 +47,7 @@ fn unused(n: usize, idles: usize, first: u32, idle: u32, wasted: u32) -> Refusal
     }
 }
 
-// Replay through one cycle, as many starts as it has jobs, left from inside with 18 at a start that would be late; then 19. Number 0 where nothing
-// is wrong.
+// Replay through one cycle, refused with 18 at a start that would be late; then 19. Number 0 where nothing is wrong.
 fn replay_fault(
     image: &[u8],
     s: TaskSet,
@@ -109,52 +58,19 @@ fn replay_fault(
     first: Offsets,
     all: usize,
 ) -> Refusal
-    requires { ⌜ CanReplay (now image) s h (now jobs) (now slack) idles first × (all ≡ all-jobs h (tasks-of s)) ⌝ }
+    requires { ⌜ CanCompare (now image) s h (now jobs) (now slack) idles first × (all ≡ all-jobs h (tasks-of s)) ⌝ }
     ensures { λ r. ⌜ RefusalTold (rebuilt (now (image .entry))) r ⌝ }
 {
     let n = s.n as usize;
-    let mut next = [0u32; 16];
-    let mut release = releases_of(s, &next);
-    let mut offsets = first.inversions;
-    let mut idle = first.idle;
-    let mut free: u32 = 0;
-    let mut wasted = NONE;
-    let mut starts: usize = 0;
-    'starts: loop {
-        if all <= starts {
-            break 'starts unused(n, idles, first.idle, idle, wasted);
-        }
-        match decision::next_start(
-            image,
-            true,
-            n,
-            h,
-            jobs,
-            slack,
-            &next,
-            &release,
-            free,
-            idle,
-            &offsets,
-        ) {
-            NextStart::Stuck(_) => {
-                break 'starts Refusal {
-                    number: 18,
-                    place: starts,
-                };
-            }
-            NextStart::Starts(f) => {
-                let i = f.task as usize;
-                let t = s.tasks[i];
-                wasted = wasted_after(wasted, offsets[i], f.inversion, f.inverts);
-                offsets[i] = f.inversion;
-                idle = f.idle;
-                next[i] += 1;
-                release[i] += t.period;
-                free = f.start + t.time;
-                starts += 1;
-            }
-        }
+    let mut nowhere = [0u8; 0];
+    let run = replay::cycle(image, s, h, jobs, slack, first, all, &mut nowhere, 0);
+    let last = run.last;
+    match last {
+        NextStart::Stuck(_) => Refusal {
+            number: 18,
+            place: run.made,
+        },
+        NextStart::Starts(f) => unused(n, idles, first.idle, f.idle, run.wasted),
     }
 }
 

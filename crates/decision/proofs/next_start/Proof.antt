@@ -25,7 +25,7 @@ idling c ts fits = record {
 tasks-readable-requires : tie.Need-tasks-readable-requires
 tasks-readable-requires c κs =
     let given = c .before .pre .0 in
-    (given .1 .set .few, λ judged. (given .0, _, given .1 .set, given .2 judged))
+    (given .1 .set .few, λ judged. (given .0, _, given .1 .set, given .2 judged .tasks-read))
 
 returns : tie.Need-returns
 returns c = tasks-told-unread _ _ (c .before .tasks-readable .ensures) _ _ (not-true _ (c .if1 .taken))
@@ -36,7 +36,7 @@ least-requires c κs = search needs
 past-idles-requires : tie.Need-past-idles-requires
 past-idles-requires c κs =
     let given = c .before .before .before .before .pre in
-    ((given .0 .0, _, _, _, idling c (given .0 .0) (given .0 .1)), given .1)
+    ((given .0 .0, _, _, _, idling c (given .0 .0) (given .0 .1), λ judged. given .0 .2 judged .idles-read), given .1)
 
 returns-2 : tie.Need-returns-2
 returns-2 c = λ ts fits.

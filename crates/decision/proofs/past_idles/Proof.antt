@@ -4,24 +4,32 @@ use mathlib.Core.Path.{refl}
 use Prim.Native.Nat.{_-_}
 use native.Mathlib.Omega.{arith}
 use borrow.Author.Needs.{needs}
-use Rattle.decision.proofs.Deciding.{Decides, idled-unread, idled-none, idled-other, used-fits, less-left, decides-again}
+use Rattle.decision.proofs.Deciding.{Decides, judged-readable, idled-unread, idled-none, idled-other, used-fits, less-left, decides-again}
 use Rattle.decision.proofs.past_idles.Statement.{statement}
 use Rattle.decision.proofs.past_idles.Tie as tie
 
 abbrev Inv-decisions : tie.InvT-decisions
-Inv-decisions image n h jobs slack first free idle from₀ o₀ from o = Decides image n h jobs slack first free idle from o
+Inv-decisions image judged n h jobs slack first free idle from₀ o₀ from o = Decides image judged n h jobs slack first free idle from o
 
 abbrev μ-decisions : tie.MeasureT-decisions
-μ-decisions image n h jobs slack first free idle from₀ o₀ from o = h - from
+μ-decisions image judged n h jobs slack first free idle from₀ o₀ from o = h - from
 
 decisions-holds : tie.Need-decisions-holds Inv-decisions μ-decisions
-decisions-holds c = record { by-end = c .before .pre .1; same = λ ts x releases offsets i. refl }
+decisions-holds c =
+    let given = c .before .pre in
+    record {
+      by-end = given .1;
+      same = λ ts x releases offsets i. refl;
+      idles-read = λ judged. (given .0 .0, given .0 .4 .fits .set, given .0 .5 judged);
+    }
 
 later-requires : tie.Need-later-requires Inv-decisions μ-decisions
 later-requires c κs = search needs
 
 idle-shown-requires : tie.Need-idle-shown-requires Inv-decisions μ-decisions
-idle-shown-requires c κs = c .before .before .before .pre .0 .4 .fits .set .few
+idle-shown-requires c κs =
+    let at = c .before in
+    (at .before .before .pre .0 .4 .fits .set .few, judged-readable (at .decisions .inv))
 
 enum-told : tie.Need-enum-told Inv-decisions μ-decisions
 enum-told c = search needs

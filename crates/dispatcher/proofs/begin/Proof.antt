@@ -10,7 +10,7 @@ use Rattle.rules.specs.Dispatcher.{refused}
 use Rattle.sets.proofs.Slots.{slots-counted}
 use Rattle.records.specs.Fits.{SetFits}
 use Rattle.records.proofs.SetKept.{in-time, fits}
-use Rattle.tables.specs.Releases.{tasks-of}
+use Rattle.replay.specs.Releases.{tasks-of}
 use Rattle.dispatcher.proofs.NextTurns.{releases-fit, next-fits}
 use Rattle.dispatcher.proofs.Beginning.{none-yet, refused-beginning, its-set, first-turn}
 use borrow.Author.Needs.{needs}

@@ -1,9 +1,8 @@
 -- `dispatcher::moves` meets its contract: the change is made out of the next start that was answered. Assumes nothing.
-use mathlib.Core.Path.{_≡_, refl, sym}
+use mathlib.Core.Path.{_≡_, refl}
 use Prim.Native.Nat.{_<_}
 use native.Mathlib.Omega.{arith}
 use lib.ListN.{getD}
-use Rattle.rules.proofs.Cases.{differ}
 use Rattle.sets.proofs.Instants.{steps-fit}
 use Rattle.decision.specs.declared.Found.{Found}
 use Rattle.decision.specs.declared.NextStart.the-variants.{Starts}
@@ -15,20 +14,20 @@ use Rattle.dispatcher.proofs.moves.Statement.{statement}
 use Rattle.dispatcher.proofs.moves.Tie as tie
 
 -- what is known of a start that is found
-found-here : (c : tie.After-next-start) (f : Found) → c .next-start .result ≡ Starts f →
+found-here : (c : tie.After-one-start) (f : Found) → c .one-start .result ≡ Starts f →
     (f .task < c .before .before .args .n) × (getD (c .before .before .args .next .now) (f .task) 0 < c .before .before .args .h)
 found-here c f e =
     let start = c .before .before in
     let d = start .pre .0 .0 in
     let found =
     found-task (start .args .image .now) d (start .pre .0 .1 .fits) (start .args .free) (start .args .offsets .now) (start .args .idle) _
-    (c .next-start .ensures) f e in
+    (c .one-start .ensures) f e in
     (found .0, omega (arith, found .1, slot-element (start .args .next .now) (f .task)))
 
-next-start-requires : tie.Need-next-start-requires
-next-start-requires c κs =
+one-start-requires : tie.Need-one-start-requires
+one-start-requires c κs =
     let start = c .before in
-    ((_, start .pre .0 .1 .fits, λ e. differ (sym e)), start .pre .1)
+    ((_, start .pre .0 .1 .fits), start .pre .1)
 
 enum-told : tie.Need-enum-told
 enum-told c = search needs
@@ -67,7 +66,7 @@ returns c =
     λ d from.
     stops 25
     (stuck-next (start .args .image .now) d (from .fits) (start .args .free) (start .args .offsets .now) (start .args .idle) _
-    (at .next-start .ensures) (start .args .cycle) _ (c .enum-told .given .1))
+    (at .one-start .ensures) (start .args .cycle) _ (c .enum-told .given .1))
 
 returns-2 : tie.Need-returns-2
 returns-2 c =
@@ -78,13 +77,13 @@ returns-2 c =
     λ d from.
     moves _ from refl (found .0) (found .1)
     (start-moves (start .args .image .now) d (from .fits) (start .args .free) (start .args .offsets .now) (start .args .idle) _
-    (at .next-start .ensures) (start .args .cycle) _ (at-f .f .given .1) (start .args .again) (from .cycle-is) (from .next-are) (from .offsets-are))
+    (at .one-start .ensures) (start .args .cycle) _ (at-f .f .given .1) (start .args .again) (from .cycle-is) (from .next-are) (from .offsets-are))
 
 pub moves-spec : {M : Type 1} → statement M
 moves-spec =
     tie.close
     (tie.spec
-    next-start-requires
+    one-start-requires
     enum-told
     enum-known-f
     cast-i

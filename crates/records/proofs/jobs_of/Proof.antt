@@ -1,22 +1,19 @@
 -- `records::jobs_of` meets its contract. The invariant: the array is filled up to i. Assumes nothing.
-use mathlib.Core.Path.{_≡_, sym, _∙_}
-use mathlib.Core.List.{map}
+use mathlib.Core.Path.{_≡_}
 use Prim.Native.Nat.{_-_, _≤_}
 use native.Mathlib.Omega.{arith}
-use lib.ListN.{length, length-map}
+use lib.ListN.{length}
 use borrow.Author.Needs.{needs}
 use Rattle.rules.specs.Tasks.{jobs as jobs-in}
-use Rattle.rules.specs.Priority.{slot}
 use Rattle.rules.specs.Dispatcher.{zeros}
 use Rattle.sets.proofs.Slots.{slots-counted}
-use Rattle.records.specs.Tables.{Filled}
-use Rattle.records.proofs.Arrays.{same-slots, filled-none, filled-more}
-use Rattle.records.proofs.SetKept.{jobs-in-slot}
+use Rattle.records.proofs.Arrays.{filled-none}
+use Rattle.records.proofs.SetKept.{ValuesTo, value-more, values-all}
 use Rattle.records.proofs.jobs_of.Statement.{statement}
 use Rattle.records.proofs.jobs_of.Tie as tie
 
 abbrev Inv-loop : tie.InvT-loop
-Inv-loop h s many₀ i₀ many i = (i ≤ 16) × Filled zeros (slot (map (jobs-in h) (s .tasks))) 0 i many
+Inv-loop h s many₀ i₀ many i = (i ≤ 16) × ValuesTo (jobs-in h) (s .tasks) i many
 
 abbrev μ-loop : tie.MeasureT-loop
 μ-loop h s many₀ i₀ many i = 16 - i
@@ -49,21 +46,15 @@ loop-again : tie.Need-loop-again Inv-loop μ-loop
 loop-again c =
     let at = c .before .before .before in
     let a = at .before .args in
-    let slots : length (a .t2 .tasks) ≡ 16 = search (needs, slots-counted) in (
-      omega arith,
-      filled-more (at .loop .inv .1) _ (omega arith) (omega arith)
-          (c .jobs .ensures ∙ sym (jobs-in-slot (a .h) (a .t2 .tasks) (at .loop .i) _ (omega arith))),
-    )
+    let slots : length (a .t2 .tasks) ≡ 16 = search (needs, slots-counted) in
+    (omega arith, rw (c .jobs .ensures) (value-more (jobs-in (a .h)) (a .t2 .tasks) (at .loop .inv .1) slots (omega arith) _))
 
 returns : tie.Need-returns Inv-loop μ-loop
 returns c =
     let at = c .before in
     let a = at .before .args in
-    let f = at .loop .inv .1 in
     let slots : length (a .t2 .tasks) ≡ 16 = search (needs, slots-counted) in
-    let length-is = length-map (a .t2 .tasks) (jobs-in (a .h)) in
-    same-slots (at .loop .many) (map (jobs-in (a .h)) (a .t2 .tasks)) (f .slots ∙ omega arith)
-    (λ i l. f .inside i (omega arith) (omega (arith, f .slots)))
+    values-all (jobs-in (a .h)) (a .t2 .tasks) (at .loop .inv .1) slots (omega arith)
 
 pub jobs-of-spec : {M : Type 1} → statement M
 jobs-of-spec =

@@ -2,7 +2,7 @@
 use borrow.Author.Needs.{needs}
 use Rattle.fields.specs.Number.{Bytes}
 use Rattle.fields.proofs.Laws.{bytes-by-index}
-use Rattle.tables.proofs.ImagesJudged.{jobs-counted, its-times, can-judge, judged-by-records, has-offsets, can-replay, judged-by-replay, judged-good}
+use Rattle.tables.proofs.ImagesJudged.{jobs-counted, its-times, can-judge, judged-by-records, has-offsets, can-compare, judged-by-replay, judged-good}
 use Rattle.tables.proofs.judge_records.Statement.{statement}
 use Rattle.tables.proofs.judge_records.Tie as tie
 
@@ -53,7 +53,7 @@ replay-fault-requires c κs =
     let judged = told .before .before .before in
     let kept = judged .before .before .before in
     let known = kept .before .before .before in (
-      can-replay (bytes known) (known .before .pre) (kept .before .jobs-of .ensures) (kept .slack-of .ensures) _ (judged .records-fault .ensures)
+      can-compare (bytes known) (known .before .pre) (kept .before .jobs-of .ensures) (kept .slack-of .ensures) _ (judged .records-fault .ensures)
           (told .before .if1 .left) _ (told .first-offsets .ensures),
       jobs-counted (bytes known) (known .before .pre),
     )

@@ -16,7 +16,7 @@ use Rattle.rules.specs.Tasks.{limits, task, release}
 use Rattle.rules.specs.Priority.{slot}
 use Rattle.rules.proofs.Cases.{by-le}
 use Rattle.records.proofs.Arrays.{slot-element, inside-alike}
-use Rattle.tables.specs.Releases.{tasks-of, next-releases, releases-of, ReleasesFit, none-before}
+use Rattle.replay.specs.Releases.{tasks-of, next-releases, releases-of, ReleasesFit, none-before}
 
 -- the tasks of a set in memory are in its first n slots
 pub task-in-slot : (s : TaskSet) (i : ℕ) (d : Task) → s .n ≤ length (s .tasks) → i < s .n → task (tasks-of s) i ≡ getD (s .tasks) i d

@@ -1,4 +1,4 @@
--- `tables::releases_of` meets its contract. The invariant: the array is filled up to i. Assumes nothing.
+-- `replay::releases_of` meets its contract. The invariant: the array is filled up to i. Assumes nothing.
 use mathlib.Core.Path.{_≡_, _∙_}
 use Prim.Native.Nat.{ℕ, _-_, _≤_}
 use native.Mathlib.Omega.{arith}
@@ -6,9 +6,9 @@ use lib.ListN.{length}
 use borrow.Author.Needs.{needs}
 use Rattle.rules.specs.Dispatcher.{zero-task}
 use Rattle.sets.proofs.Slots.{slots-counted}
-use Rattle.tables.proofs.NextReleases.{releases-so-far, release-fits, none-so-far, more-so-far, all-so-far}
-use Rattle.tables.proofs.releases_of.Statement.{statement}
-use Rattle.tables.proofs.releases_of.Tie as tie
+use Rattle.replay.proofs.NextReleases.{releases-so-far, release-fits, none-so-far, more-so-far, all-so-far}
+use Rattle.replay.proofs.releases_of.Statement.{statement}
+use Rattle.replay.proofs.releases_of.Tie as tie
 
 abbrev Inv-loop : tie.InvT-loop
 Inv-loop next s n release₀ i₀ release i = (i ≤ n) × (release ≡ releases-so-far (s .tasks) next i)

@@ -1,4 +1,4 @@
--- `tables::all_started` meets its contract. The invariant: no release passed so far lies before the end of the cycle. Assumes nothing.
+-- `replay::all_started` meets its contract. The invariant: no release passed so far lies before the end of the cycle. Assumes nothing.
 use mathlib.Core.Path.{sym}
 use Prim.Native.Nat.{ℕ, _-_, _≤_, _<_}
 use native.Mathlib.Omega.{arith}
@@ -6,9 +6,9 @@ use borrow.Author.Count.{below-more}
 use borrow.Author.Needs.{needs}
 use Rattle.rules.specs.Priority.{slot}
 use Rattle.records.proofs.Arrays.{slot-element}
-use Rattle.tables.proofs.NextReleases.{one-before, each-past}
-use Rattle.tables.proofs.all_started.Statement.{statement}
-use Rattle.tables.proofs.all_started.Tie as tie
+use Rattle.replay.proofs.NextReleases.{one-before, each-past}
+use Rattle.replay.proofs.all_started.Statement.{statement}
+use Rattle.replay.proofs.all_started.Tie as tie
 
 abbrev Inv-loop : tie.InvT-loop
 Inv-loop n h release i₀ i = (i ≤ n) × ((k : ℕ) → k < i → h ≤ slot release k)

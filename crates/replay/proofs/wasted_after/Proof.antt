@@ -1,9 +1,9 @@
--- `tables::wasted_after` meets its contract. Assumes nothing.
+-- `replay::wasted_after` meets its contract. Assumes nothing.
 use native.Mathlib.Omega.{arith}
 use borrow.Author.Tests.{eq-eqb, ne-eqb, lt-ltb, le-ltb}
-use Rattle.tables.specs.Replayed.{wasted-after}
-use Rattle.tables.proofs.wasted_after.Statement.{statement}
-use Rattle.tables.proofs.wasted_after.Tie as tie
+use Rattle.replay.specs.Runs.{wasted-after}
+use Rattle.replay.proofs.wasted_after.Statement.{statement}
+use Rattle.replay.proofs.wasted_after.Tie as tie
 
 returns : tie.Need-returns
 unfolding wasted-after

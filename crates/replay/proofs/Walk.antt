@@ -1,14 +1,12 @@
 -- A walk through a cycle, from start to start: what the arrays of the code hold, and that they hold it after the next start. Replay and writing the
 -- rebuilt timetable go this way. Assumes nothing.
-use mathlib.Core.Path.{_≡_, refl, sym, _∙_, ap}
+use mathlib.Core.Path.{_≡_, refl, _∙_, ap}
 use mathlib.Core.Bool.{true, false}
 use mathlib.Core.List.{List, [], _∷_, _++_}
 use mathlib.Core.Option.{none}
 use Prim.Native.Nat.{ℕ, zero, suc, _+_, _-_, _≤_, _<_}
 use native.Mathlib.Omega.{arith}
-use native.Mathlib.Nat.{div-le-self, le-of-dvd, suc-mul}
 use lib.ListN.{length, getD, set, replicate, length-set, length-replicate, length-append}
-use lib.Seq.{getD-set-same, getD-set-other}
 use borrow.Author.Tests.{lt-ltb, le-ltb}
 use Rattle.fields.specs.Body.{head₀, tail₀}
 use Rattle.rules.specs.declared.Task.{Task}
@@ -20,23 +18,23 @@ use Rattle.rules.specs.Priority.{slot, start-job, all-started, setting}
 use Rattle.rules.specs.Decision.{replay}
 use Rattle.rules.specs.Offsets.{lent, past-own, next-is, next-start, tasks-readable, inversion-offsets, first-offsets}
 use Rattle.rules.specs.Dispatcher.{zeros}
-use Rattle.rules.proofs.Cases.{by-bool, by-le, by-eq, clash}
-use Rattle.rules.proofs.GoodSets.{set-good, good-rules, good-positive}
-use Rattle.rules.proofs.PriorityLaws.{slot-empty, slot-start-same, slot-start-other, due-in-cycle}
+use Rattle.rules.proofs.Cases.{by-bool, by-le, clash}
+use Rattle.rules.proofs.GoodSets.{set-good, good-rules}
+use Rattle.rules.proofs.PriorityLaws.{slot-empty, due-in-cycle}
 use Rattle.rules.proofs.ValidTimetables.{jobs-left}
 use Rattle.rules.proofs.Shown.{from, shown-readable}
 use Rattle.rules.proofs.ShownAt.{Stand}
 use Rattle.rules.proofs.StuckStarts.{by-next}
-use Rattle.rules.proofs.OffsetReplay.{Replays, StartsNext, zeros-same, replay-begins, possible, replay-starts, replay-stuck, replay-done, done-length}
+use Rattle.rules.proofs.OffsetReplay.{Replays, StartsNext, zeros-same, replay-begins, replay-starts, replay-stuck, replay-done, done-length}
 use Rattle.records.specs.Fits.{SetFits}
-use Rattle.records.proofs.Arrays.{slot-element}
 use Rattle.decision.specs.Fits.{Fits}
 use Rattle.decision.specs.declared.Found.{Found}
 use Rattle.decision.specs.declared.NextStart.the-variants.{Starts, Stuck}
 use Rattle.decision.specs.Next.{inverts, next-case}
 use Rattle.decision.proofs.Fitting.{left-before}
-use Rattle.tables.specs.Releases.{none-before}
-use Rattle.tables.proofs.Stores.{start-stores, put-stores}
+use Rattle.replay.specs.Releases.{none-before}
+use Rattle.replay.proofs.Stores.{start-stores, put-stores}
+use Rattle.replay.proofs.Running.{answer-keeps, start-fits}
 
 -- where the walk stands after starts σ: the arrays fit the set and what has started, and replay stands there at the same offsets
 pub record WalkAt (bytes : List ℕ) (ts : List Task) (X : Tables) (h n : ℕ) (many slack : List ℕ) (σ : List Entry) (next releases : List ℕ)
@@ -153,25 +151,6 @@ module _ {bytes : List ℕ} {ts : List Task} {X : Tables} {before : ℕ} (st : S
         rw (w .fits .set .n-tasks)
         (shown-readable (lent bytes ts) (length ts) offsets (λ i. from i (slot next i) (X .inversions)) (w .replays .placed))
 
-    -- the releases of next jobs, after a start
-    releases-on : (i : ℕ) → i < length ts → (j : ℕ) → j < n →
-        slot (set releases i (getD releases i 0 + task ts i .period)) j ≡ release (task ts j) (slot (start-job next i) j)
-    releases-on i a j l =
-        by-eq j i
-        (λ u. rw (u, slot-start-same next i, slot-element (set releases i (getD releases i 0 + task ts i .period)) i)
-        (getD-set-same releases i _ 0 (omega (arith, w .fits .set .few, w .fits .set .n-tasks, w .release-slots))
-        ∙ omega (
-          arith,
-          slot-element releases i,
-          w .fits .releases-there i (omega (arith, w .fits .set .n-tasks)),
-          suc-mul (slot next i) (task ts i .period),
-        )))
-        (λ u. slot-element (set releases i (getD releases i 0 + task ts i .period)) j
-        ∙ getD-set-other releases i j _ 0 u
-        ∙ sym (slot-element releases j)
-        ∙ w .fits .releases-there j l
-        ∙ rw (slot-start-other next i j u))
-
     module _ (left : all-started h ts next ≡ false) where
       -- the next start is stuck: replay comes to a late job
       pub walk-stuck : (number : ℕ) →
@@ -197,29 +176,18 @@ module _ {bytes : List ℕ} {ts : List Task} {X : Tables} {before : ℕ} (st : S
           WalkGoesOn bytes ts X h n many slack σ next releases offsets (found i t o)
       found-goes-on i t o q =
           let z : StartsNext bytes ts X σ next offsets i t o = replay-starts st walk-good (w .replays) (rw walk-cycle at left) i t o q in
-          let good : GoodSet ts h = w .fits .set .good in
-          let a : i < n = omega (arith, w .fits .set .n-tasks, z .a-task) in
-          let its-job : slot next i < jobs h (task ts i) = rw walk-cycle (z .a-job) in
-          let in-slots : i < limits .tasks = omega (arith, w .fits .set .few) in
-          let there : getD releases i 0 ≡ release (task ts i) (slot next i) = sym (slot-element releases i) ∙ w .fits .releases-there i a in
+          let on = start-fits (w .fits) (w .next-slots) (w .release-slots)
+          (answer-keeps bytes free offsets idle (found i t o) (w .fits) (ap (next-case ts bytes next offsets) q)) in
+          let in-slots : i < limits .tasks = omega (arith, on .a-task, w .fits .set .few) in
           let stored : set next i (getD next i 0 + 1) ≡ start-job next i = start-stores next i (omega (arith, w .next-slots)) in
           let put = put-stores offsets i (found i t o .inversion) (omega (arith, w .offset-slots)) in
           record {
-            a-task = a;
-            one-more = omega (arith, slot-element next i, div-le-self h (task ts i .period), good .short);
-            next-release = omega (
-              arith,
-              released-in-cycle good i (slot next i) its-job,
-              le-of-dvd {m = task ts i .period} {n = h} (good-positive good) (good .is-hyperperiod .common i (z .a-task)),
-              good .short,
-            );
-            ends-in-cycle = rw walk-cycle (z .ends-in-cycle);
+            a-task = on .a-task;
+            one-more = on .one-more;
+            next-release = on .next-release;
+            ends-in-cycle = on .by-end;
             goes-on = record {
-              fits = record {
-                set = w .fits .set;
-                counts = λ j l. rw (stored, walk-cycle) (possible st walk-good (z .goes-on) j (omega (arith, w .fits .set .n-tasks)));
-                releases-there = λ j l. rw stored (releases-on i (z .a-task) j l);
-              };
+              fits = on .fits;
               replays = rw (stored, put) (z .goes-on);
               next-slots = length-set next i _ ∙ w .next-slots;
               release-slots = length-set releases i _ ∙ w .release-slots;
