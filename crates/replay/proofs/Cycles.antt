@@ -8,7 +8,7 @@ use Prim.Native.Nat.{ℕ, zero, suc, _+_, _-_, min, _≤_, _<_}
 use native.Mathlib.Omega.{arith}
 use lib.Dec.{eqb}
 use lib.Seq.{append-snoc}
-use lib.ListN.{length, getD, set, length-append, List·getD-map}
+use lib.ListN.{length, getD, set, length-append, length-map, List·getD-map}
 use borrow.Author.Tests.{lt-ltb, le-ltb, eq-eqb, ne-eqb}
 use Rattle.fields.specs.Number.{Bytes}
 use Rattle.rules.specs.declared.Task.{Task}
@@ -17,7 +17,7 @@ use Rattle.rules.specs.declared.Entry.{Entry}
 use Rattle.rules.specs.declared.Idle.{Idle}
 use Rattle.rules.specs.declared.Offsets.{Offsets as OffsetsOf}
 use Rattle.rules.specs.Refusals.{refuses, refusal}
-use Rattle.rules.specs.Tasks.{limits, task, all-jobs, hyperperiod, GoodSet, set-fault}
+use Rattle.rules.specs.Tasks.{limits, task, release, all-jobs, hyperperiod, set-fault}
 use Rattle.rules.specs.Setting.{Tables}
 use Rattle.rules.specs.Priority.{slot, start-job, all-started, by-priority, setting}
 use Rattle.rules.specs.Irregularities.{runs as is-run}
@@ -25,7 +25,7 @@ use Rattle.rules.specs.Judging.{judge-tables}
 use Rattle.rules.specs.Offsets.{last-offset, Source, lent, past-own, next-is, next-start}
 use Rattle.rules.specs.Dispatcher.{zero-task, zeros}
 use Rattle.rules.proofs.Cases.{by-bool, by-eq, by-le, clash}
-use Rattle.rules.proofs.GoodSets.{some-jobs, a-job}
+use Rattle.rules.proofs.GoodSets.{a-job}
 use Rattle.rules.proofs.PriorityLaws.{slot-empty}
 use Rattle.rules.proofs.Images.{records-before}
 use Rattle.rules.proofs.Shown.{ShowsIdles, no-idle, an-idle}
@@ -39,12 +39,12 @@ use Rattle.decision.specs.declared.Found.{Found}
 use Rattle.decision.specs.declared.NextStart.{NextStart as Answer}
 use Rattle.decision.specs.declared.NextStart.the-variants.{Starts, Stuck}
 use Rattle.decision.specs.Next.{inverts, next-case, next-of, IdlesRead, none-left, one-more, AllRead}
-use Rattle.replay.specs.Releases.{tasks-of, releases-of, ReleasesFit}
-use Rattle.replay.specs.Runs.{wasted-after, Place, Ends, entry-of, start-first, answer-at, behind, runs, AllReadIn, CanRun, CanReplay, cycle-start, times-of, periods-of, cycle-of}
+use Rattle.replay.specs.Releases.{tasks-of}
+use Rattle.replay.specs.Runs.{wasted-after, Place, Ends, entry-of, start-first, answer-at, behind, runs, AllReadIn, CanRun, CanReplay, first-releases, times-of, periods-of, cycle-start, cycle-of}
 use Rattle.replay.proofs.Stores.{start-stores}
 use Rattle.replay.proofs.Running.{runs-stuck, runs-last, runs-more}
-use Rattle.replay.proofs.NextReleases.{task-in-slot, releases-slots, releases-there}
-use Rattle.replay.proofs.Walk.{WalkAt, WalkGoesOn, released-in-cycle, walk-begins, walk-cycle, walk-all, walk-left, walk-readable, walk-starts}
+use Rattle.replay.proofs.NextReleases.{task-in-slot}
+use Rattle.replay.proofs.Walk.{WalkAt, WalkGoesOn, walk-begins, walk-cycle, walk-all, walk-left, walk-readable, walk-starts}
 
 -- where a run that found all starts of a cycle ended: next job numbers, free instant and tasks' offsets; replay of the tables stands there after
 -- these starts, with these records wasted, and all jobs have started
@@ -149,23 +149,11 @@ module _ {bytes : List ℕ} {ts : List Task} {X : Tables} {σ : List Entry} wher
     done = λ g l. rw (← append-snoc σ (entry-of f) (e .entries)) (so .done g l);
   }
 
--- the releases of job 0 are numbers of 32 bits
-pub releases-at-first : {bytes : List ℕ} {s : TaskSet} {h : ℕ} {many slack : List ℕ} {first : OffsetsOf} →
-    CanReplay bytes s h many slack first → ReleasesFit s zeros
-releases-at-first {s = s} {h = h} can =
-    let good : GoodSet (tasks-of s) h = can .fits .good in
-    record {
-      few = can .fits .few;
-      fit = λ i l.
-          let a : i < length (tasks-of s) = omega (arith, can .fits .n-tasks) in
-          rw (zeros-same (suc i) i (omega arith), slot-empty i) (omega (arith, released-in-cycle good i 0 (some-jobs good i a), good .short));
-    }
-
 -- the arrays that the run through a cycle begins with, and the number of its starts
 pub record CycleFilled (s : TaskSet) (h : ℕ) (times periods releases : List ℕ) (all : ℕ) : Type 0 where
   pub times-are : times ≡ times-of s
   pub periods-are : periods ≡ periods-of s
-  pub releases-are : releases ≡ releases-of s zeros
+  pub releases-are : releases ≡ first-releases s
   pub all-are : all ≡ all-jobs h (tasks-of s)
 
 -- the run that begins with them is the cycle's
@@ -195,7 +183,7 @@ module _ {bytes : List ℕ} {s : TaskSet} {h : ℕ} {many slack : List ℕ} {fir
   pub cycle-stand : Stand bytes (tasks-of s) (can .tables) (records-before (tasks-of s) (can .tables))
   cycle-stand = read-stand bytes ts X are-bytes (can .read) (can .good) (can .records-good)
 
-  -- a task's slot in the arrays of times and of periods
+  -- a task's slot in the arrays of times, of periods and of first releases
   time-in-slot : (i : ℕ) → i < s .n → getD (times-of s) i 0 ≡ task (tasks-of s) i .time
   time-in-slot i l =
       List·getD-map (λ (t : Task). t .time) (s .tasks) i zero-task
@@ -205,6 +193,13 @@ module _ {bytes : List ℕ} {s : TaskSet} {h : ℕ} {many slack : List ℕ} {fir
   period-in-slot i l =
       List·getD-map (λ (t : Task). t .period) (s .tasks) i zero-task
       ∙ ap (λ (t : Task). t .period) (sym (task-in-slot s i zero-task (omega (arith, can .fits .few)) l))
+
+  release-in-slot : (i : ℕ) → i < s .n → slot (first-releases s) i ≡ release (task (tasks-of s) i) (slot zeros i)
+  release-in-slot i l =
+      slot-element (first-releases s) i
+      ∙ List·getD-map (λ (t : Task). t .offset) (s .tasks) i zero-task
+      ∙ ap (λ (t : Task). t .offset) (sym (task-in-slot s i zero-task (omega (arith, can .fits .few)) l))
+      ∙ rw (zeros-same (suc i) i (omega arith), slot-empty i) (omega arith)
 
   -- the next start from a place, the place behind it, and a run from there
   abbrev answer : Place → Answer
@@ -295,12 +290,10 @@ module _ {bytes : List ℕ} {s : TaskSet} {h : ℕ} {many slack : List ℕ} {fir
   -- the place where the cycle begins
   cycle-begins : At [] (cycle-start s first)
   cycle-begins =
-      let room : s .n ≤ length (s .tasks) = omega (arith, can .fits .few) in
       record {
-        walk = subst (λ (o : OffsetsOf). WalkAt bytes ts X h (s .n) many slack [] zeros (releases-of s zeros) 0 (o .idle) (o .inversions))
+        walk = subst (λ (o : OffsetsOf). WalkAt bytes ts X h (s .n) many slack [] zeros (first-releases s) 0 (o .idle) (o .inversions))
             (sym (can .first-is))
-            (walk-begins cycle-stand (releases-of s zeros) (can .fits) (releases-slots s zeros (can .fits .few) room)
-            (releases-there s zeros (can .fits .few) room));
+            (walk-begins cycle-stand (first-releases s) (can .fits) (length-map (s .tasks) (λ (t : Task). t .offset) ∙ slots) release-in-slot);
         wastes = wastes-begin cycle-stand (can .good) zeros (zeros-same (length ts));
       }
 

@@ -28,7 +28,7 @@ use Rattle.decision.specs.Fits.{Fits}
 use Rattle.decision.specs.Next.{AllRead, next-of}
 use Rattle.writing.specs.Writing.{record-put}
 use Rattle.replay.specs.declared.Run.{Run}
-use Rattle.replay.specs.Releases.{tasks-of, releases-of}
+use Rattle.replay.specs.Releases.{tasks-of}
 
 -- the least offset of a PV record that had no effect, after a start from a task's offset to the one behind it
 unfoldable pub wasted-after : ℕ → ℕ → ℕ → Bool → ℕ
@@ -134,23 +134,26 @@ pub record CanReplay (bytes : List ℕ) (s : TaskSet) (h : ℕ) (many slack : Li
   pub fits : SetFits (tasks-of s) h (s .n) many slack
   pub first-is : first ≡ first-offsets (tasks-of s) tables
 
--- the place where a cycle begins
-abbrev pub cycle-start : TaskSet → OffsetsOf → Place
-cycle-start s first = record {
-  next = zeros;
-  releases = releases-of s zeros;
-  offsets = first .inversions;
-  free = 0;
-  idle = first .idle;
-  wasted = last-offset;
-}
+-- the release of each task's job 0, its time and its period, in sixteen slots
+abbrev pub first-releases : TaskSet → List ℕ
+first-releases s = map (λ (t : Task). t .offset) (s .tasks)
 
--- each task's time and period, in sixteen slots
 abbrev pub times-of : TaskSet → List ℕ
 times-of s = map (λ (t : Task). t .time) (s .tasks)
 
 abbrev pub periods-of : TaskSet → List ℕ
 periods-of s = map (λ (t : Task). t .period) (s .tasks)
+
+-- the place where a cycle begins
+abbrev pub cycle-start : TaskSet → OffsetsOf → Place
+cycle-start s first = record {
+  next = zeros;
+  releases = first-releases s;
+  offsets = first .inversions;
+  free = 0;
+  idle = first .idle;
+  wasted = last-offset;
+}
 
 -- the run through the cycle
 abbrev pub cycle-of : List ℕ → TaskSet → ℕ → OffsetsOf → Ends

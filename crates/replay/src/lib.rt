@@ -11,10 +11,11 @@ ghost use mathlib.Core.List.{List};
 ghost use Prim.Native.Nat.{_≤_};
 ghost use Rattle.rules.specs.declared.Task.{Task};
 ghost use Rattle.rules.specs.Tasks.{all-jobs};
+ghost use Rattle.rules.specs.Dispatcher.{zeros};
 ghost use Rattle.decision.specs.Fits.{Fits};
 ghost use Rattle.decision.specs.Next.{next-of};
 ghost use Rattle.replay.specs.Releases.{tasks-of, releases-of, ReleasesFit, none-before};
-ghost use Rattle.replay.specs.Runs.{wasted-after, run-from, run-told, entries-from, CanRun, CanReplay, times-of, periods-of, cycle-of};
+ghost use Rattle.replay.specs.Runs.{wasted-after, run-from, run-told, entries-from, CanRun, CanReplay, first-releases, times-of, periods-of, cycle-of};
 
 // No offset is this one: no record is wasted.
 const NONE: u32 = 4294967295;
@@ -206,32 +207,19 @@ pub fn one_start(
     run.last
 }
 
-// Each task's declared time.
-fn times_of(s: TaskSet) -> [u32; 16]
-    ensures { λ r. ⌜ r ≡ times-of s ⌝ }
+// What a cycle begins with of each task, into lent arrays of zeros: the release of its job 0, its time and its period.
+fn fill_from(s: TaskSet, release: &mut [u32; 16], times: &mut [u32; 16], periods: &mut [u32; 16])
+    requires { ⌜ (now release ≡ zeros) × (now times ≡ zeros) × (now periods ≡ zeros) ⌝ }
+    ensures { λ _. ⌜ (now (release .exit) ≡ first-releases s) × (now (times .exit) ≡ times-of s) × (now (periods .exit) ≡ periods-of s) ⌝ }
 {
-    let mut times = [0u32; 16];
     let mut i: usize = 0;
     while i < 16 {
         let t = s.tasks[i];
+        release[i] = t.offset;
         times[i] = t.time;
-        i += 1;
-    }
-    times
-}
-
-// Each task's period.
-fn periods_of(s: TaskSet) -> [u32; 16]
-    ensures { λ r. ⌜ r ≡ periods-of s ⌝ }
-{
-    let mut periods = [0u32; 16];
-    let mut i: usize = 0;
-    while i < 16 {
-        let t = s.tasks[i];
         periods[i] = t.period;
         i += 1;
     }
-    periods
 }
 
 // Replay through one cycle, as many starts as it has jobs, of an image whose records were judged. The entries are put into the output, one behind the
@@ -253,9 +241,10 @@ pub fn cycle(
 {
     let n = s.n as usize;
     let next = [0u32; 16];
-    let release = releases_of(s, &next);
-    let times = times_of(s);
-    let periods = periods_of(s);
+    let mut releases = [0u32; 16];
+    let mut times = [0u32; 16];
+    let mut periods = [0u32; 16];
+    fill_from(s, &mut releases, &mut times, &mut periods);
     let offsets = first.inversions;
     starts(
         image,
@@ -267,7 +256,7 @@ pub fn cycle(
         &times,
         &periods,
         &next,
-        &release,
+        &releases,
         0,
         first.idle,
         &offsets,
