@@ -16,12 +16,12 @@ use Rattle.rules.specs.Priority.{slot, is-left, waiting, least-release}
 use Rattle.rules.specs.Judging.{inversion-in-range}
 use Rattle.rules.proofs.Cases.{by-bool, by-le, both-true}
 use Rattle.rules.proofs.PriorityLaws.{due-in-cycle}
+use Rattle.rules.proofs.Arrays.{slot-element}
 use Rattle.rules.proofs.GoodSets.{set-good}
 use Rattle.rules.proofs.Inversions.{next-waits}
 use Rattle.records.specs.Fits.{SetFits}
 use Rattle.decision.specs.Fits.{Fits}
 use Rattle.decision.specs.Waiting.{least-of, come-by}
-use Rattle.decision.proofs.Scans.{slot-getD}
 
 -- the least release is at or before the end of the cycle
 pub least-by-end : (h : ℕ) (ts : List Task) (x : List ℕ) → least-release h ts x ≤ h
@@ -97,15 +97,15 @@ module _ {ts : List Task} {h n : ℕ} {many slack : List ℕ} (fits : SetFits ts
     pub no-such-job : getD many (r .task) 0 ≤ r .job → false ≡ inversion-in-range ts h r
     no-such-job past =
         let there = fits .jobs-there (r .task) a-task in
-        rw (is-task, le-ltb (r .job) (jobs h (task ts (r .task))) (omega (arith, slot-getD many (r .task))))
+        rw (is-task, le-ltb (r .job) (jobs h (task ts (r .task))) (omega (arith, slot-element many (r .task))))
 
     -- its delay is compared with D − C
     pub its-delay : r .job < getD many (r .task) 0 → leb (r .delay) (getD slack (r .task) 0) ≡ inversion-in-range ts h r
     its-delay before =
         let there = fits .jobs-there (r .task) a-task in
         let slack-is : getD slack (r .task) 0 ≡ task ts (r .task) .deadline - task ts (r .task) .time =
-        sym (slot-getD slack (r .task)) ∙ fits .slack-there (r .task) a-task in
-        rw (is-task, lt-ltb (r .job) (jobs h (task ts (r .task))) (omega (arith, slot-getD many (r .task))), slack-is)
+        sym (slot-element slack (r .task)) ∙ fits .slack-there (r .task) a-task in
+        rw (is-task, lt-ltb (r .job) (jobs h (task ts (r .task))) (omega (arith, slot-element many (r .task))), slack-is)
 
 -- the instant that a PV in its own range names comes before the end of the cycle
 pub recorded-before : (ts : List Task) (h : ℕ) (r : Inversion) → ((j : ℕ) → KeepsItsRule (task ts j)) → inversion-in-range ts h r ≡ true →

@@ -19,6 +19,7 @@ use Rattle.rules.specs.Decision.{falls-at, recorded}
 use Rattle.rules.specs.Marks.{PV, size}
 use Rattle.rules.specs.Offsets.{Shown, unreadable, no-record, shows, last-offset, lent, is-of, own-delay, past-own, readable}
 use Rattle.rules.proofs.Cases.{by-bool, by-option, by-eq, by-le, both-true, clash, differ}
+use Rattle.rules.proofs.Arrays.{slot-element}
 use Rattle.rules.proofs.GoodSets.{good-rules}
 use Rattle.rules.proofs.Lowest.{lowest-from-some}
 use Rattle.rules.proofs.LateJobs.{lowest-from-below}
@@ -28,7 +29,6 @@ use Rattle.decision.specs.Shown.{no-delay, delay-number}
 use Rattle.decision.specs.Waiting.{mask-of, come-by, clear-bit}
 use Rattle.decision.specs.Next.{past-if, delays-in, is-delay, Choosing, IsChosen}
 use Rattle.decision.proofs.Masks.{zero-empty, other-than, same-fails, other-kept, mask-clear, mask-empty, mask-some, cleared-above}
-use Rattle.decision.proofs.Scans.{slot-getD}
 use Rattle.decision.proofs.WholeRecords.{inversion-after}
 use Rattle.decision.proofs.Fitting.{is-hyperperiod, recorded-before}
 use Rattle.decision.proofs.Reading.{tasks-read-each}
@@ -141,7 +141,7 @@ module _ {ts : List Task} {h n : ℕ} {bytes x releases offsets : List ℕ} {t m
   -- a task's offset can be read
   pub choosing-read : {i : ℕ} → i < n → readable (lent bytes ts .inversion-shown (getD offsets i 0)) ≡ true
   choosing-read {i} l =
-      ap (λ (o : ℕ). readable (lent bytes ts .inversion-shown o)) (sym (slot-getD offsets i))
+      ap (λ (o : ℕ). readable (lent bytes ts .inversion-shown o)) (sym (slot-element offsets i))
       ∙ tasks-read-each (lent bytes ts) n offsets (c .tasks-read) i l
 
   -- the time since a release is a delay
@@ -164,14 +164,14 @@ module _ {ts : List Task} {h n : ℕ} {bytes x releases offsets : List ℕ} {t m
     number-as : number ≡ delay-number (delay i)
     number-as =
         is-number
-        ∙ ap₂ (λ (o k : ℕ). delay-number (own-delay (lent bytes ts .inversion-shown o) i k)) (sym (slot-getD offsets i)) (sym (slot-getD x i))
+        ∙ ap₂ (λ (o k : ℕ). delay-number (own-delay (lent bytes ts .inversion-shown o) i k)) (sym (slot-element offsets i)) (sym (slot-element x i))
 
     -- it is the time since the release where there is a record for this instant
     number-now : slot releases i ≤ t → eqb number (t - getD releases i 0) ≡ now i
     number-now come =
-        let there : getD releases i 0 ≡ release (task ts i) (slot x i) = sym (slot-getD releases i) ∙ c .fits .releases-there i l in
+        let there : getD releases i 0 ≡ release (task ts i) (slot x i) = sym (slot-element releases i) ∙ c .fits .releases-there i l in
         rw (number-as, there)
-        (falls-as (delay i) (release (task ts i) (slot x i)) t (omega (arith, slot-getD releases i))
+        (falls-as (delay i) (release (task ts i) (slot x i)) t (omega (arith, slot-element releases i))
         (omega (arith, c .before-end, c .fits .set .good .short)))
 
     -- it is a delay
@@ -229,7 +229,7 @@ module _ {ts : List Task} {h n : ℕ} {bytes x releases offsets : List ℕ} {t m
 
       -- so has its release in the array
       pub left-released : getD releases i 0 ≤ t
-      left-released = omega (arith, left-come, slot-getD releases i)
+      left-released = omega (arith, left-come, slot-element releases i)
 
       -- with a record for this instant it is the lowest that has one
       lowest-now : now i ≡ true → lowest n now ≡ some i

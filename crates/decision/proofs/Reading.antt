@@ -16,11 +16,11 @@ use Rattle.rules.specs.Marks.{Mark, TS, TK, SL, ID, PV, EN, size}
 use Rattle.rules.specs.Image.{to-idle, to-inversion}
 use Rattle.rules.specs.Offsets.{Shown, unreadable, no-record, shows, Source, record-at, shown-if, idle-by, inversion-by, lent, readable, tasks-readable}
 use Rattle.rules.proofs.Cases.{by-bool, by-option, by-eq, by-le, both-true}
+use Rattle.rules.proofs.Arrays.{slot-element}
 use Rattle.decision.specs.declared.InversionShown.{InversionShown}
 use Rattle.decision.specs.declared.InversionShown.the-variants.{Unreadable}
 use Rattle.records.specs.Fits.{SetFits}
 use Rattle.decision.specs.Shown.{inversion-case}
-use Rattle.decision.proofs.Scans.{slot-getD}
 use Rattle.decision.proofs.WholeRecords.{inversion-unread}
 use Rattle.decision.proofs.Fitting.{set-hyperperiod, no-such-task, no-such-job, its-delay}
 
@@ -120,7 +120,7 @@ module _ {bytes : List ℕ} {n : ℕ} {many slack offsets : List ℕ} where
       answer ≡ inversion-case (lent bytes ts .inversion-shown (getD offsets i 0))) where
     -- what its slot's offset shows
     at-slot : (ts : List Task) → lent bytes ts .inversion-shown (getD offsets i 0) ≡ lent bytes ts .inversion-shown (slot offsets i)
-    at-slot ts = ap (lent bytes ts .inversion-shown) (sym (slot-getD offsets i))
+    at-slot ts = ap (lent bytes ts .inversion-shown) (sym (slot-element offsets i))
 
     -- it cannot be read
     pub reads-unread : answer ≡ Unreadable → (ts : List Task) (h : ℕ) → SetFits ts h n many slack →

@@ -19,6 +19,7 @@ use Rattle.rules.specs.Marks.{PV, size}
 use Rattle.rules.specs.Offsets.{last-offset, lent, past-own, all-readable}
 use Rattle.rules.proofs.Cases.{by-bool, by-option, by-le, by-nat, both-in, clash, differ}
 use Rattle.rules.proofs.PriorityLaws.{keeps-rules, breaks-none, ends-in-cycle, setting-laws}
+use Rattle.rules.proofs.Arrays.{slot-element}
 use Rattle.rules.proofs.GoodSets.{good-rules}
 use Rattle.rules.proofs.Lowest.{lowest-from-some}
 use Rattle.rules.proofs.LateJobs.{lowest-from-below, Waits, waits-keeps, ends-late}
@@ -31,7 +32,6 @@ use Rattle.decision.specs.declared.Chosen.{Chosen}
 use Rattle.decision.specs.Waiting.{mask-of, come-by, clear-bit, task-number}
 use Rattle.decision.specs.Next.{inverts, next-case, next-of, past-if, delays-in, choice-of, Choosing, IsChosen, StartsAt}
 use Rattle.decision.proofs.Masks.{other-than, other-kept, lowest-other, lowest-number}
-use Rattle.decision.proofs.Scans.{slot-getD}
 use Rattle.decision.proofs.Fitting.{is-hyperperiod, a-task, left-before, waits-as}
 use Rattle.decision.proofs.Looking.{recorded-come, past-if-own, own-room}
 
@@ -151,7 +151,7 @@ module _ {ts : List Task} {bytes x : List ℕ} {f h n : ℕ} {slack releases off
 
           -- its release has come
           pub chosen-come : getD releases i 0 ≤ t
-          chosen-come = by-waiting (λ come d. omega (arith, slot-getD releases i))
+          chosen-come = by-waiting (λ come d. omega (arith, slot-element releases i))
 
           -- its job would end late
           pub chosen-late : getD slack i 0 < t - getD releases i 0 → Stuck 18 ≡ answered
@@ -160,7 +160,14 @@ module _ {ts : List Task} {bytes x : List ℕ} {f h n : ℕ} {slack releases off
               (λ come d.
               refused i d
               (ends-late ts H x t i
-              (omega (arith, slot-getD slack i, slot-getD releases i, s .fits .set .slack-there i l, s .fits .releases-there i l, keep i .fits))))
+              (omega (
+                arith,
+                slot-element slack i,
+                slot-element releases i,
+                s .fits .set .slack-there i l,
+                s .fits .releases-there i l,
+                keep i .fits,
+              ))))
 
           -- it waits
           chosen-waits : slot releases i ≤ t → Waits ts H x t i
@@ -203,7 +210,7 @@ module _ {ts : List Task} {bytes x : List ℕ} {f h n : ℕ} {slack releases off
           -- behind its own record there is room
           pub chosen-room : c .own ≡ true → getD offsets i 0 + size PV ≤ last-offset
           chosen-room own =
-              rw (slot-getD offsets i) at (own-room ts bytes keep i (slot x i) (slot offsets i) (c .own) (is-chosen .is-own l) own)
+              rw (slot-element offsets i) at (own-room ts bytes keep i (slot x i) (slot offsets i) (c .own) (is-chosen .is-own l) own)
 
           -- it starts
           pub chosen-starts : t - getD releases i 0 ≤ getD slack i 0 → {inversion lower : ℕ} →
@@ -214,9 +221,16 @@ module _ {ts : List Task} {bytes x : List ℕ} {f h n : ℕ} {slack releases off
               (λ come d.
               let kept = waits-keeps ts H x t i (chosen-waits come)
               (λ over.
-              omega (arith, slot-getD slack i, slot-getD releases i, s .fits .set .slack-there i l, s .fits .releases-there i l, keep i .fits)) in
+              omega (
+                arith,
+                slot-element slack i,
+                slot-element releases i,
+                s .fits .set .slack-there i l,
+                s .fits .releases-there i l,
+                keep i .fits,
+              )) in
               let past : inversion ≡ past-own (lent bytes ts .inversion-shown (slot offsets i)) i (slot x i) (slot offsets i) =
-              is-inversion ∙ ap (past-if (c .own)) (sym (slot-getD offsets i))
+              is-inversion ∙ ap (past-if (c .own)) (sym (slot-element offsets i))
               ∙ past-if-own ts bytes keep i (slot x i) (slot offsets i) (c .own) (is-chosen .is-own l) in
               let inverted : ltb lower i ≡ inverts ts x t i = rw is-lower (lower-inverts come) in
               rw (past, inverted)

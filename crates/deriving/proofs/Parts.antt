@@ -4,14 +4,13 @@ use mathlib.Core.Path.{_≡_, refl, sym, _∙_, ap}
 use mathlib.Core.List.{List, [], _++_, append-assoc, append-nil}
 use Prim.Native.Nat.{ℕ, zero, suc, _+_, _≤_, _<_}
 use native.Mathlib.Omega.{arith}
-use native.Mathlib.Nat.{add-zero}
 use native.Mathlib.Numerals.{add-one}
-use lib.ListN.{length, getD, set, length-append, take-append-drop}
+use lib.ListN.{length, getD, set, length-append}
 use lib.Seq.{getD-set-same, getD-set-other}
 use Rattle.rules.proofs.Cases.{by-eq}
 use Rattle.writing.specs.Writing.{put-at}
 use Rattle.deriving.specs.Parts.{joined, puts, Apart, LeftToPut, sum-first}
-use Rattle.writing.proofs.Puts.{put-fits, put-length, put-next, put-apart}
+use Rattle.writing.proofs.Puts.{put-none, put-length, put-next, put-apart}
 
 -- numbers that each slot up to i is to hold, with one slot more
 pub slot-more : (xs : List ℕ) (goal : ℕ → ℕ) (i v : ℕ) → i < length xs → ((k : ℕ) → k < i → getD xs k 0 ≡ goal k) → v ≡ goal i →
@@ -22,10 +21,6 @@ slot-more xs goal i v l before here k lt =
 -- the sum of one count more
 pub sum-more : (i : ℕ) (counts : List ℕ) → sum-first (i + 1) counts ≡ sum-first i counts + getD counts i 0
 sum-more i counts = ap (λ (k : ℕ). sum-first k counts) (add-one i)
-
--- no bytes change nothing
-pub put-none : (out : List ℕ) (at : ℕ) → at ≤ length out → put-at out at [] ≡ out
-put-none out at l = put-fits out at [] (omega arith) ∙ rw (add-zero at) (take-append-drop at out)
 
 -- the same parts at the same places
 pub puts-same : (many i : ℕ) (places places′ : ℕ → ℕ) (parts parts′ : ℕ → List ℕ) (out : List ℕ) →

@@ -14,16 +14,14 @@ use Rattle.rules.specs.Priority.{slot, start-job, setting-of}
 use Rattle.rules.specs.Marks.{SL, size}
 use Rattle.rules.proofs.Theory.{ValidFrom, entry}
 use Rattle.rules.proofs.PriorityLaws.{StartKeepsRules, keeps-rules}
+use Rattle.rules.proofs.Arrays.{task-in-slot}
+use Rattle.rules.proofs.Starts.{valid-first}
 use Rattle.timetables.specs.Entries.{entry-in, entries-at}
 use Rattle.timetables.specs.Judged.{tasks-of, EntriesStand}
 use Rattle.timetables.proofs.EntriesRead.{entry-left}
-use Rattle.timetables.proofs.Turns.{AtEntry, stands-good, GoodStart, room, task-in-slot, turn-task, turn-good, turn-next}
+use Rattle.timetables.proofs.Turns.{AtEntry, stands-good, GoodStart, room, turn-task, turn-good, turn-next}
 
--- the first of the entries left breaks no rule
-first-keeps : {G : Setting} {x : G .Started} {f : ℕ} {e : Entry} {σ : List Entry} → ValidFrom G x f (e ∷ σ) → G .breaks x f (e .task) (e .start) ≡ 0
-first-keeps (entry ok valid) = ok
-
--- and the others go on from there
+-- behind a first entry the others go on from there
 others-valid : {G : Setting} {x : G .Started} {f : ℕ} {e : Entry} {σ : List Entry} → ValidFrom G x f (e ∷ σ) →
     ValidFrom G (G .start-job x (e .task)) (G .free-after (e .task) (e .start)) σ
 others-valid (entry ok valid) = valid
@@ -59,7 +57,7 @@ module _ {bytes : List ℕ} {s : TaskSet} {h listed : ℕ} {releases x : List �
 
     -- its start keeps the rules
     pub entry-keeps : StartKeepsRules (tasks-of s) h x free (e .task) (e .start)
-    entry-keeps = keeps-rules (tasks-of s) h x free (e .task) (e .start) (first-keeps from-here)
+    entry-keeps = keeps-rules (tasks-of s) h x free (e .task) (e .start) (valid-first from-here)
 
     -- it is of a task
     pub entry-task : e .task < s .n

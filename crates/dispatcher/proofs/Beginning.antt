@@ -16,9 +16,9 @@ use Rattle.rules.specs.Judging.{records-fault, compared}
 use Rattle.rules.specs.Operations.{Tabled, check-answer, check-tables}
 use Rattle.rules.specs.Dispatcher.{zeros, zero-task, stopped, refused, start-next, fresh, begin-accepted, begin-framed, begin}
 use Rattle.rules.proofs.Cases.{first-none, or-else-gives}
+use Rattle.rules.proofs.Arrays.{slot-zeros}
 use Rattle.rules.proofs.GoodSets.{good-set}
 use Rattle.rules.proofs.BeginOrder.{begin-refuses}
-use Rattle.rules.proofs.Serving.{slot-zeros}
 use Rattle.replay.specs.Releases.{tasks-of}
 use Rattle.tables.specs.Judged.{Good, JudgedAs}
 use Rattle.tables.specs.declared.Tables.{Tables as Judgement}

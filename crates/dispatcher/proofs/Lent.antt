@@ -5,14 +5,14 @@ use Prim.Native.Nat.{ℕ, zero, suc, _+_, _*_, _≤_, _<_}
 use native.Mathlib.Omega.{arith}
 use lib.ListN.{length, getD}
 use Rattle.rules.specs.declared.Task.{Task}
+use Rattle.rules.specs.declared.TaskSet.{TaskSet}
 use Rattle.rules.specs.Tasks.{limits, task, no-task}
 use Rattle.rules.specs.Priority.{slot}
 use Rattle.rules.specs.Dispatcher.{set-of}
+use Rattle.rules.proofs.Arrays.{slot-element, task-in-slot}
 use Rattle.numbers.specs.Numbers.{slots-from, slots, number-at, task-from, state-from}
 use Rattle.numbers.proofs.FilledSlots.{sixteen}
 use Rattle.records.specs.Tables.{Filled}
-use Rattle.records.proofs.Arrays.{slot-element}
-use Rattle.replay.proofs.NextReleases.{task-in-slot}
 
 module _ {A : Type 0} (value : ℕ → A) (d : A) where
   -- what stands in the k-th of so many slots
@@ -39,7 +39,8 @@ module _ (lent : List ℕ) where
     -- a task of the set
     pub task-lent : (i : ℕ) → i < state-from lent .set .n → task-from lent (1 + 4 * i) ≡ task (set-of (state-from lent)) i
     task-lent i l =
-        sym (task-in-slot (state-from lent .set) i no-task room l ∙ in-slots (λ (k : ℕ). task-from lent (1 + 4 * k)) no-task i (omega arith))
+        let s : TaskSet = state-from lent .set in
+        sym (task-in-slot (s .tasks) (s .n) i no-task room l ∙ in-slots (λ (k : ℕ). task-from lent (1 + 4 * k)) no-task i (omega arith))
 
   -- the release of each task's job 0, in an array that was filled with the offsets
   pub first-release : {before starts : List ℕ} {n : ℕ} → n ≡ state-from lent .set .n → n ≤ limits .tasks →

@@ -16,6 +16,7 @@ use Rattle.rules.specs.Priority.{slot, start-job, setting}
 use Rattle.rules.specs.Offsets.{lent, past-own, put-slot, NextStart, next-is, stuck, next-start}
 use Rattle.rules.specs.Dispatcher.{stopped, set-of, refused, started, start-next}
 use Rattle.rules.proofs.Cases.{clash}
+use Rattle.rules.proofs.Arrays.{slot-element}
 use Rattle.rules.proofs.GoodSets.{set-good}
 use Rattle.rules.proofs.StuckStarts.{by-next}
 use Rattle.numbers.specs.declared.Going.the-variants.{Moves}
@@ -25,7 +26,6 @@ use Rattle.decision.specs.declared.NextStart.{NextStart as Answer}
 use Rattle.decision.specs.declared.NextStart.the-variants.{Starts, Stuck}
 use Rattle.decision.specs.Fits.{Fits}
 use Rattle.decision.specs.Next.{inverts, next-case, next-of}
-use Rattle.records.proofs.Arrays.{slot-element}
 use Rattle.replay.proofs.Stores.{start-stores, put-stores}
 use Rattle.replay.proofs.Running.{found-left}
 use Rattle.dispatcher.proofs.Slots.{put-next}

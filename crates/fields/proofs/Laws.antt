@@ -9,7 +9,7 @@ use lib.ListN.{length, getD, take, drop}
 use Rattle.fields.specs.Number.{Bytes, number, big-endian}
 
 -- a width has room for one number at least
-pub power-positive : (w : ℕ) → 0 < 256 ^ w
+power-positive : (w : ℕ) → 0 < 256 ^ w
 power-positive w = one-le-pow w 256 (omega arith)
 
 -- a number's bytes fill the width

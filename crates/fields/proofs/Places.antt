@@ -8,8 +8,8 @@ use native.Mathlib.Omega.{arith}
 use borrow.Author.Tests.{leb-true, leb-false, le-leb, lt-leb}
 use lib.ListN.{length, getD, set, take, drop, length-append, length-drop}
 use lib.Seq.{length-take-le, take-append-seam, take-at, drop-at, drop-append-add, drop-drop, drop-cons, sets, sets-eq}
-use Rattle.fields.specs.Number.{Bytes, number, big-endian, whole, field-at, stored-at}
-use Rattle.fields.proofs.Laws.{power-positive, big-endian-length, number-below, read-written, bytes-take, bytes-drop}
+use Rattle.fields.specs.Number.{number, big-endian, whole, field-at, stored-at}
+use Rattle.fields.proofs.Laws.{big-endian-length, read-written}
 
 -- a test holds, or it does not
 by-test : {A : Type 0} (b : Bool) → (b ≡ true → A) → (b ≡ false → A) → A
@@ -30,16 +30,6 @@ field-at-whole w bs at h = rw (le-leb (at + w) (length bs) h)
 pub field-at-cut : (w : ℕ) (bs : List ℕ) (at : ℕ) → length bs < at + w → field-at w bs at ≡ 0
 unfolding field-at
 field-at-cut w bs at h = rw (lt-leb (at + w) (length bs) h)
-
--- a field of bytes is in the range of its width
-pub field-at-below : (w : ℕ) (bs : List ℕ) (at : ℕ) → Bytes bs → field-at w bs at < 256 ^ w
-field-at-below w bs at b =
-    by-whole w bs at
-    (λ h.
-    let part = drop at bs in
-    let e : length (take w part) ≡ w = length-take-le w part (omega (arith, length-drop at bs)) in
-    rw (field-at-whole w bs at h) (rw e at (number-below (take w part) (bytes-take w part (bytes-drop at bs b)))))
-    (λ h. rw (field-at-cut w bs at h) (power-positive w))
 
 -- a store of a field that fits puts its bytes at the place, and leaves the others
 pub stored-whole : (w : ℕ) (old : List ℕ) (at x : ℕ) → at + w ≤ length old

@@ -15,9 +15,10 @@ use Rattle.rules.specs.Framing.{after-listed, goes-on, ends, Allowed, frame-rec
 use Rattle.rules.proofs.Cases.{clash, differ, both-in}
 use Rattle.rules.proofs.Marked.{due-turn, found-allowed}
 use Rattle.rules.proofs.FramingTurns as turns
+use Rattle.rules.proofs.Shapes.{in-later-turn}
 use Rattle.images.specs.Table.{stands-at}
 use Rattle.framing.specs.Frames.{Reached}
-use Rattle.framing.proofs.Runs.{in-turn, past-record}
+use Rattle.framing.proofs.Runs.{past-record}
 use Rattle.framing.proofs.FromPlace.{frame-given, ended-at, listed-from}
 
 -- where no SL stands, no record of a timetable goes on behind the tasks
@@ -52,7 +53,7 @@ module _ {bytes : List ℕ} {s : Place} (re : Reached 1 bytes s) (behind : 2 ≤
 
   -- framing comes to the place behind an entry
   past-entry : stands-at bytes (s .offset) SL ≡ true → Reached 1 bytes (after-listed SL s)
-  past-entry e = past-record SL re refl (in-turn (s .rank) (row SL .rank) behind low) e (after-listed SL s) refl
+  past-entry e = past-record SL re refl (in-later-turn (s .rank) (row SL .rank) behind low) e (after-listed SL s) refl
 
   -- behind which one more is listed
   pub entry-counted : stands-at bytes (s .offset) SL ≡ true → (l : Layout) → frame 1 bytes ≡ gives l → suc (s .listed) ≤ l .listed

@@ -6,7 +6,7 @@ use Prim.Native.Nat.{ℕ, zero, suc, _+_, _-_, _*_, _≤_, _<_}
 use native.Mathlib.Nat.{zero-mul, suc-mul}
 use native.Mathlib.Numerals.{add-one}
 use native.Mathlib.Omega.{arith}
-use borrow.Author.Tests.{le-leb, leb-true, le-ltb, eq-eqb, ne-eqb, eqb-true}
+use borrow.Author.Tests.{leb-true, eq-eqb, ne-eqb, eqb-true}
 use lib.Dec.{leb, eqb}
 use lib.ListN.{length, getD, drop}
 use lib.Seq.{drop-drop}
@@ -16,6 +16,7 @@ use Rattle.rules.specs.Framing.{in-kind, may-follow, rank-due, tasks-due, after
 use Rattle.rules.proofs.Cases.{by-bool, by-nat, by-eq, by-le, both-true}
 use Rattle.rules.proofs.Marked.{allowed-found}
 use Rattle.rules.proofs.FramingTurns as turns
+use Rattle.rules.proofs.Shapes.{in-later-turn}
 use Rattle.images.specs.declared.Row.{Row}
 use Rattle.images.specs.Table.{mark-of, code-row, stands-at}
 use Rattle.images.proofs.TableLaws.{stands-whole}
@@ -92,10 +93,6 @@ past-run m from many place of-kind a stand re (suc i) h =
 pub run-inside : {bytes : List ℕ} {from : ℕ} {m : Mark} {most many : ℕ} (len : ℕ) → len ≡ body-length m → RunOf bytes from m most many →
     from + many * (len + 2) ≤ length bytes
 run-inside {m = m} len e run = let whole : len + 2 ≡ size m = omega arith in rw whole (run .inside)
-
--- a later mark is in its turn behind the tasks, where none of a higher rank has stood
-pub in-turn : (least rank : ℕ) → 2 ≤ least → least ≤ rank → may-follow least rank ≡ true
-in-turn least rank behind low = rw (le-ltb least 2 behind, may-follow) (le-leb least rank low)
 
 -- where a task is due, the rank is that of TK
 due-rank : (due : ℕ) → 1 ≤ due → rank-due due ≡ 1
@@ -217,8 +214,8 @@ module _ (kind : ℕ) (s : Place) (behind : 2 ≤ s .rank) where
       at (suc j) = refl
 
       turn : (j : ℕ) → may-follow (listed-behind m s j .rank) (row m .rank) ≡ true
-      turn zero = in-turn (s .rank) (row m .rank) behind low
-      turn (suc j) = in-turn (row m .rank) (row m .rank) (omega arith) (omega arith)
+      turn zero = in-later-turn (s .rank) (row m .rank) behind low
+      turn (suc j) = in-later-turn (row m .rank) (row m .rank) (omega arith) (omega arith)
 
       next : (j : ℕ) → after-listed m (listed-behind m s j) ≡ listed-behind m s (suc j)
       next zero =
@@ -235,7 +232,7 @@ module _ (kind : ℕ) (s : Place) (behind : 2 ≤ s .rank) where
       at (suc j) = refl
 
       turn : (j : ℕ) → may-follow (inversions-behind s j .rank) (row PV .rank) ≡ true
-      turn zero = in-turn (s .rank) (row PV .rank) behind low
+      turn zero = in-later-turn (s .rank) (row PV .rank) behind low
       turn (suc j) = refl
 
       next : (j : ℕ) → after-inversion (inversions-behind s j) ≡ inversions-behind s (suc j)

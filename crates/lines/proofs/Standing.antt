@@ -3,7 +3,7 @@ use mathlib.Core.Path.{_≡_, refl, sym, _∙_, ap}
 use mathlib.Core.List.{List, [], _∷_, _++_, map}
 use Prim.Native.Nat.{ℕ, zero, suc, _+_, _*_, _-_, _<_}
 use native.Mathlib.Omega.{arith}
-use lib.ListN.{length, getD, drop, List·getD-append}
+use lib.ListN.{length, getD, drop, length-map, List·getD-append}
 use lib.Seq.{drop-drop}
 use Rattle.fields.proofs.Bodies.{values-body}
 use Rattle.rules.specs.declared.Layout.{Layout}
@@ -14,14 +14,15 @@ use Rattle.rules.specs.Refusals.{gives}
 use Rattle.rules.specs.Tasks.{no-task, task, hyperperiod}
 use Rattle.rules.specs.Timetable.{entry-at}
 use Rattle.rules.specs.Priority.{slot}
-use Rattle.rules.specs.Marks.{Mark, TS, TK, SL, row, size, body-length, values}
+use Rattle.rules.specs.Marks.{TS, TK, SL, row, size, body-length, values}
 use Rattle.rules.specs.Image.{of-task, of-entry, to-task, to-entry, records, end-record, image, WritableTimetable}
 use Rattle.rules.specs.Framing.{frame, read, behind-tasks, tasks-in, entries-in}
 use Rattle.rules.specs.Operations.{Timed, read-timetable}
 use Rattle.rules.specs.Promised.{TimetableImage}
 use Rattle.rules.proofs.Cases.{then-gives, gives-in}
+use Rattle.rules.proofs.Arrays.{inside-alike, read-length}
 use Rattle.rules.proofs.GoodSets.{set-good}
-use Rattle.rules.proofs.Held.{behind-drop}
+use Rattle.rules.proofs.Held.{behind-tasks-drop}
 use Rattle.rules.proofs.Images.{written-timetable, timetable-image-length, one-timetable-image}
 use Rattle.rules.proofs.ValidTimetables.{valid-timetable}
 use Rattle.rules.proofs.Writable.{valid-writable}
@@ -31,11 +32,6 @@ use Rattle.images.proofs.BodyLaws.{head-body-is, entry-body-is}
 use Rattle.framing.specs.SetRead.{tasks-offset, set-read}
 use Rattle.framing.proofs.SetLaws.{set-read-is}
 
--- as many values are read as are asked for
-read-length : {A : Type 0} (m : Mark) (to : List ℕ → A) (many : ℕ) (bytes : List ℕ) → length (map to (read m many bytes)) ≡ many
-read-length m to zero bytes = refl
-read-length m to (suc many) bytes = ap suc (read-length m to many (drop (size m) bytes))
-
 -- entry j of those that are read is read at its own place
 read-entry : (many j : ℕ) (bytes : List ℕ) → j < many →
     entry-at (map to-entry (read SL many bytes)) j ≡ to-entry (values SL (drop (j * size SL) bytes))
@@ -44,12 +40,6 @@ read-entry (suc many) zero bytes l = refl
 read-entry (suc many) (suc j) bytes l =
     let e : size SL + j * size SL ≡ suc j * size SL = omega arith in
     read-entry many j (drop (size SL) bytes) (omega arith) ∙ rw (drop-drop (j * size SL) (size SL) bytes, e)
-
--- an element is the same whatever stands past the end
-getD-inside : (ts : List Task) (i : ℕ) (d e : Task) → i < length ts → getD ts i d ≡ getD ts i e
-getD-inside [] i d e l = absurd (omega arith)
-getD-inside (t ∷ ts) zero d e l = refl
-getD-inside (t ∷ ts) (suc i) d e l = getD-inside ts i d e (omega arith)
 
 -- the layout of the image, and what is read by it
 pub record ReadAs (bytes : List ℕ) (ts : List Task) (τ : List Entry) : Type 0 where
@@ -78,14 +68,16 @@ module _ {bytes : List ℕ} {ts : List Task} {τ : List Entry} (t : TimetableIma
       (ap read-timetable (t .is) ∙ written-timetable ts τ writable)
       (λ l f e.
       let same = gives-in _ _ e in
+      let tasks : List (List ℕ) = read TK (l .tasks) (drop (size TS) bytes) in
+      let entries : List (List ℕ) = read SL (l .listed) (behind-tasks l bytes) in
       let its-tasks : tasks-in l bytes ≡ ts = ap (λ (i : Timed). i .tasks) same in
       let its-entries : entries-in l bytes ≡ τ = ap (λ (i : Timed). i .entries) same in
       record {
         layout = l;
         tasks = its-tasks;
         entries = its-entries;
-        many-tasks = sym (read-length TK to-task (l .tasks) (drop (size TS) bytes)) ∙ ap length its-tasks;
-        many-entries = sym (read-length SL to-entry (l .listed) (behind-tasks l bytes)) ∙ ap length its-entries;
+        many-tasks = sym (read-length TK (l .tasks) (drop (size TS) bytes)) ∙ sym (length-map tasks to-task) ∙ ap length its-tasks;
+        many-entries = sym (read-length SL (l .listed) (behind-tasks l bytes)) ∙ sym (length-map entries to-entry) ∙ ap length its-entries;
       })
 
   -- its TS has the number of tasks
@@ -104,7 +96,7 @@ module _ {bytes : List ℕ} {ts : List Task} {τ : List Entry} (t : TimetableIma
       let r = read-as in
       ap (λ (n : ℕ). getD (set-read n bytes .tasks) i d) (sym (r .many-tasks))
       ∙ ap (λ (s : TaskSet). getD (s .tasks) i d) (set-read-is bytes (r .layout) (omega (arith, image-long, r .many-tasks)))
-      ∙ rw (r .tasks) (List·getD-append ts _ d i l ∙ getD-inside ts i d no-task l)
+      ∙ rw (r .tasks) (List·getD-append ts _ d i l ∙ inside-alike ts i d no-task l)
 
   -- entry j stands at its byte offset
   pub entry-stands : (j at : ℕ) → j < length τ → at ≡ tasks-offset (length ts) + j * size SL →
@@ -118,8 +110,7 @@ module _ {bytes : List ℕ} {ts : List Task} {τ : List Entry} (t : TimetableIma
       (ap (λ (σ : List Entry). entry-at σ j) (sym (r .entries))
       ∙ read-entry (r .layout .listed) j (behind-tasks (r .layout) bytes) (omega (arith, r .many-entries))
       ∙ rw (
-        behind-drop TK n (drop (size TS) bytes),
-        drop-drop (n * size TK) (size TS) bytes,
+        behind-tasks-drop (r .layout) bytes,
         drop-drop (j * size SL) (size TS + n * size TK) bytes,
         place,
       ))

@@ -1,17 +1,13 @@
 -- Slots that are filled one after the other, each with its value: a set's tasks, or sixteen numbers. Assumes nothing.
 use mathlib.Core.Path.{_≡_, refl, sym, _∙_, ap}
-use mathlib.Core.List.{List, [], _∷_, _++_, map}
+use mathlib.Core.List.{List, [], _∷_, _++_}
 use Prim.Native.Nat.{ℕ, zero, suc, _+_, _-_, _<_}
 use native.Mathlib.Numerals.{add-one}
 use native.Mathlib.Omega.{arith}
-use lib.ListN.{length, set, replicate, length-map}
+use lib.ListN.{length, set, replicate}
 use lib.Seq.{set-at, append-snoc}
 use Rattle.rules.specs.Tasks.{limits}
 use Rattle.numbers.specs.Numbers.{slots-from, slots}
-
--- there are as many slots as there are fields of slots
-pub slots-counted : {A B : Type 0} (fields : A → B) (slots : List A) (n : ℕ) → length (map fields slots) ≡ n → length slots ≡ n
-slots-counted fields slots n e = sym (length-map slots fields) ∙ e
 
 module _ {A : Type 0} (value : ℕ → A) where
   -- so many slots are as many as asked for

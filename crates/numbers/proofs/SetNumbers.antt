@@ -9,9 +9,10 @@ use Rattle.rules.specs.declared.Task.{Task}
 use Rattle.rules.specs.declared.TaskSet.{TaskSet}
 use Rattle.rules.specs.Tasks.{limits}
 use Rattle.rules.specs.Dispatcher.{task-numbers}
+use Rattle.rules.proofs.PossibleStates.{four-each}
 use Rattle.numbers.specs.Numbers.{slots-from, task-from, set-from}
 use Rattle.numbers.proofs.FilledSlots.{sixteen}
-use Rattle.numbers.proofs.StoredNumbers.{four-each, stored-over}
+use Rattle.numbers.proofs.StoredNumbers.{stored-over}
 use Rattle.numbers.proofs.StateNumbers.{tasks-then, same-tasks}
 
 -- a slot holds its value

@@ -8,11 +8,10 @@ use lib.Seq.{drop-cons}
 use Rattle.rules.specs.declared.Task.{Task}
 use Rattle.rules.specs.declared.Dispatcher.{Dispatcher as State}
 use Rattle.rules.specs.Dispatcher.{task-numbers, numbers, Shaped, number-count}
-use Rattle.rules.proofs.PossibleStates.{count-numbers}
+use Rattle.rules.proofs.PossibleStates.{four-each, count-numbers}
 use Rattle.rules.proofs.Cases.{clash}
 use Rattle.numbers.specs.Numbers.{slots-from, number-at, task-from, numbers-from, state-from}
 use Rattle.numbers.proofs.FilledSlots.{sixteen}
-use Rattle.numbers.proofs.StoredNumbers.{four-each}
 
 module _ (lent : List ℕ) where
   -- the number at a place, and what is behind it

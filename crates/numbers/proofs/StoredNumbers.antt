@@ -9,7 +9,7 @@ use lib.Seq.{take-suc, take-all, length-take-le, sets, sets-eq}
 use Rattle.rules.specs.declared.Task.{Task}
 use Rattle.rules.specs.declared.Dispatcher.{Dispatcher as State}
 use Rattle.rules.specs.Dispatcher.{task-numbers, numbers, zero-task, stopped, Shaped, number-count}
-use Rattle.rules.proofs.PossibleStates.{count-numbers}
+use Rattle.rules.proofs.PossibleStates.{four-each, count-numbers}
 
 -- two parts, the second behind the first, are stored as one
 stored-behind : (x y old : List ℕ) (at behind : ℕ) → behind ≡ at + length x → sets (sets old at x) behind y ≡ sets old at (x ++ y)
@@ -21,11 +21,6 @@ pub number-more : (old x : List ℕ) (at i : ℕ) → i < length x → set (sets
 number-more old x at i l =
     let many : length (take i x) ≡ i = length-take-le i x (omega arith) in
     rw (add-one i, take-suc x i 0 l) (stored-behind (take i x) (getD x i 0 ∷ []) old at (at + i) (omega arith))
-
--- a task has four numbers
-pub four-each : (ts : List Task) → length (task-numbers ts) ≡ 4 * length ts
-four-each [] = refl
-four-each (t ∷ ts) = omega (arith, four-each ts)
 
 -- the numbers of tasks in two parts
 task-parts : (ts us : List Task) → task-numbers (ts ++ us) ≡ task-numbers ts ++ task-numbers us

@@ -15,6 +15,7 @@ use Rattle.rules.specs.Image.{written, record-of, of-entry}
 use Rattle.rules.proofs.Cases.{clash, gives-in}
 use Rattle.rules.proofs.Framed.{written-length}
 use Rattle.rules.proofs.OffsetReplay.{replay-done}
+use Rattle.rules.proofs.AcceptedTables.{no-faults, replayed}
 use Rattle.records.specs.Fits.{InTime, SlackOf}
 use Rattle.records.proofs.SetKept.{in-time, fits}
 use Rattle.decision.specs.declared.Found.{Found}
@@ -26,7 +27,7 @@ use Rattle.replay.proofs.Cycles.{by-answer, cycle-stand, cycle-stuck, cycle-don
 use Rattle.writing.specs.Writing.{put-at, behind-tasks}
 use Rattle.writing.proofs.Puts.{put-none, put-length, put-next}
 use Rattle.rebuilding.specs.Rebuilt.{TimetableBehind, entries-bytes, entries-put, CanPut}
-use Rattle.rebuilding.proofs.Rebuilding.{no-faults, replayed, as-many-entries, set-is-good, entries-length}
+use Rattle.rebuilding.proofs.Rebuilding.{as-many-entries, set-is-good, entries-length}
 
 -- entries put one behind the other, where there is room for all, are one put of all their bytes
 puts-all : (τ : List Entry) (old : List ℕ) (at : ℕ) → at + length τ * size SL ≤ length old → entries-from old at τ ≡ put-at old at (entries-bytes τ)

@@ -1,7 +1,6 @@
 -- Rebuilding from a table image that is judged: the refusal that it was judged with, no room, or the image of its timetable. Assumes nothing.
 use mathlib.Core.Path.{_≡_, sym, _∙_, ap, ap₂}
 use mathlib.Core.List.{List, [], _∷_, map}
-use mathlib.Core.Option.{none}
 use Prim.Native.Nat.{ℕ, suc, _+_, _*_, _≤_, _<_}
 use native.Mathlib.Omega.{arith}
 use lib.ListN.{length, length-map}
@@ -13,41 +12,21 @@ use Rattle.rules.specs.declared.Entry.{Entry}
 use Rattle.rules.specs.declared.Offsets.{Offsets}
 use Rattle.rules.specs.declared.Refusal.{Refusal}
 use Rattle.rules.specs.declared.MakeAnswer.the-variants as make-case
-use Rattle.rules.specs.Refusals.{Judged, gives, refuses, refusal, first}
-use Rattle.rules.specs.Tasks.{all-jobs, hyperperiod, GoodSet, set-fault}
-use Rattle.rules.specs.Setting.{Tables}
-use Rattle.rules.specs.Priority.{setting}
-use Rattle.rules.specs.Decision.{replay}
-use Rattle.rules.specs.Judging.{timetable-fault, records-fault, tables, tables-differ, compared, judge-tables}
+use Rattle.rules.specs.Refusals.{Judged, gives, refuses, refusal}
+use Rattle.rules.specs.Tasks.{all-jobs, GoodSet}
 use Rattle.rules.specs.Marks.{SL, EN, size}
 use Rattle.rules.specs.Image.{image, records, record-of, set-records, of-entry, timetable-image}
 use Rattle.rules.specs.Operations.{rebuilt, rebuilt-image, make-answer, output-after, into, rebuild, rebuild-output}
-use Rattle.rules.proofs.Cases.{or-else-gives, first-none, then-gives}
 use Rattle.rules.proofs.GoodSets.{good-set}
-use Rattle.rules.proofs.JudgedTables.{timetable-judged}
 use Rattle.rules.proofs.ValidTimetables.{no-fault-valid, valid-length}
 use Rattle.rules.proofs.Images.{records-length, timetable-image-length}
+use Rattle.rules.proofs.AcceptedTables.{no-faults, its-tables}
 use Rattle.tables.specs.declared.Tables.{Tables as Judgement}
 use Rattle.tables.specs.Judged.{Good}
 use Rattle.replay.specs.Releases.{tasks-of}
 use Rattle.writing.specs.Writing.{put-at, record-put, behind-tasks}
 use Rattle.writing.proofs.ImagePut.{image-put}
 use Rattle.rebuilding.specs.Rebuilt.{TimetableBehind, entries-bytes, entries-put}
-
--- tables that are judged with a timetable: the set and the records have no fault
-module _ (ts : List Task) (X : Tables) (τ : List Entry) (judged : judge-tables ts X ≡ gives τ) where
-  pub no-faults : (set-fault ts ≡ none) × (records-fault ts (hyperperiod ts) X ≡ none)
-  no-faults =
-      first-none (set-fault ts) (records-fault ts (hyperperiod ts) X)
-      (or-else-gives (first (set-fault ts) (records-fault ts (hyperperiod ts) X)) _ τ judged .0)
-
-  -- and replay gives that timetable
-  pub replayed : replay (setting ts) [] X ≡ gives τ
-  replayed =
-      then-gives (replay (setting ts) [] X) (compared ts X) τ
-      (or-else-gives (first (set-fault ts) (records-fault ts (hyperperiod ts) X)) _ τ judged .1)
-      (λ σ e c.
-      e ∙ or-else-gives (tables-differ (suc (length ts)) X (tables ts σ)) (gives σ) τ c .1)
 
 -- what an image is refused with is answered, and the output is as it was
 pub refused-so : (bytes old : List ℕ) (r : Refusal) → rebuilt bytes ≡ refuses r →
@@ -70,9 +49,7 @@ module _ (bytes : List ℕ) (s : TaskSet) (h : ℕ) (first-at : Offsets) (τ : L
   -- the timetable has as many entries as a cycle has jobs
   pub as-many-entries : length τ ≡ all-jobs h ts
   as-many-entries =
-      let a = or-else-gives (first (set-fault ts) (timetable-fault ts τ)) _ _ (timetable-judged ts (g .tables) τ (g .judged)) in
-      let b = first-none (set-fault ts) (timetable-fault ts τ) (a .0) in
-      valid-length (no-fault-valid ts τ .0 (b .1)) ∙ ap (λ (k : ℕ). all-jobs k ts) (sym (g .cycle))
+      valid-length (no-fault-valid ts τ .0 (its-tables ts (g .tables) τ (g .judged) .0)) ∙ ap (λ (k : ℕ). all-jobs k ts) (sym (g .cycle))
 
   -- the set is good
   pub set-is-good : GoodSet ts h

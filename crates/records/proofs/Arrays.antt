@@ -3,25 +3,12 @@ use mathlib.Core.Path.{_≡_, refl, sym, _∙_}
 use mathlib.Core.List.{List, [], _∷_, _++_}
 use Prim.Native.Nat.{ℕ, zero, suc, _+_, _≤_, _<_}
 use native.Mathlib.Omega.{arith}
-use lib.ListN.{length, getD, set, replicate, length-set}
-use lib.Seq.{drop-cons, getD-set-same, getD-set-other, ext-getD}
+use lib.ListN.{length, set, replicate, length-set}
+use lib.Seq.{getD-set-same, getD-set-other, ext-getD}
 use Rattle.rules.specs.Priority.{slot}
 use Rattle.rules.proofs.Cases.{by-eq}
-use Rattle.rules.proofs.PriorityLaws.{slot-empty}
+use Rattle.rules.proofs.Arrays.{slot-element, slot-zeros}
 use Rattle.records.specs.Tables.{Filled}
-
--- a slot is an element, 0 past the end
-pub slot-element : (x : List ℕ) (i : ℕ) → slot x i ≡ getD x i 0
-slot-element [] i = slot-empty i
-slot-element (a ∷ x) zero = refl
-slot-element (a ∷ x) (suc i) = slot-element x i
-
--- inside a list it does not matter what stands for places outside
-pub inside-alike : {A : Type 0} (xs : List A) (i : ℕ) (d e : A) → i < length xs → getD xs i d ≡ getD xs i e
-inside-alike xs i d e l =
-    let a = drop-cons xs i d l in
-    let b = drop-cons xs i e l in
-    cc
 
 -- arrays of one length with the same in every slot are equal
 pub same-slots : (x y : List ℕ) → length x ≡ length y → ((i : ℕ) → i < length x → slot x i ≡ slot y i) → x ≡ y
@@ -29,15 +16,9 @@ same-slots x y e same = ext-getD 0 x y e (λ i l. sym (slot-element x i) ∙ sam
 
 -- slots behind numbers that zeros follow are 0
 pub zeros-behind : (x : List ℕ) (many i : ℕ) → length x ≤ i → slot (x ++ replicate many 0) i ≡ 0
-zeros-behind [] zero i l = slot-empty i
-zeros-behind [] (suc many) zero l = refl
-zeros-behind [] (suc many) (suc i) l = zeros-behind [] many i (omega arith)
+zeros-behind [] many i l = slot-zeros many i
 zeros-behind (a ∷ x) many zero l = absurd (omega arith)
 zeros-behind (a ∷ x) many (suc i) l = zeros-behind x many i (omega arith)
-
--- and so are all slots of zeros
-pub zeros-zero : (many i : ℕ) → slot (replicate many 0) i ≡ 0
-zeros-zero many i = zeros-behind [] many i (omega arith)
 
 -- at first nothing is filled
 pub filled-none : (before : List ℕ) (value : ℕ → ℕ) (from : ℕ) → Filled before value from from before

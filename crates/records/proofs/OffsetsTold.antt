@@ -70,7 +70,7 @@ lower-found bytes i at (suc many) (suc j) l lower higher =
     (λ m. rw (e j) at (higher (omega arith)))))
 
 -- as many offsets as tasks
-offsets-length : (ts : List Task) (X : Tables) (i many : ℕ) → length (inversion-offsets ts X i many) ≡ many
+pub offsets-length : (ts : List Task) (X : Tables) (i many : ℕ) → length (inversion-offsets ts X i many) ≡ many
 offsets-length ts X i zero = refl
 offsets-length ts X i (suc many) = ap suc (offsets-length ts X (suc i) many)
 

@@ -14,8 +14,8 @@ use Rattle.rules.specs.declared.Inversion.{Inversion}
 use Rattle.rules.specs.Tasks.{task, jobs}
 use Rattle.rules.specs.Judging.{idle-in-range, inversion-in-range}
 use Rattle.rules.proofs.Cases.{by-le, both-true}
+use Rattle.rules.proofs.Arrays.{slot-element}
 use Rattle.records.specs.Fits.{SetFits}
-use Rattle.records.proofs.Arrays.{slot-element}
 
 module _ (h : ℕ) (r : Idle) where
   -- an ID without a length

@@ -1,21 +1,17 @@
 -- ID and PV records read one behind the other: with one left the first is at the offset and the others are behind it. Assumes nothing.
 use mathlib.Core.Path.{_≡_, refl, _∙_, ap, ap₂}
 use mathlib.Core.List.{List, [], _∷_, map}
-use Prim.Native.Nat.{ℕ, zero, suc, _+_, _*_, _-_, _≤_, _<_}
+use Prim.Native.Nat.{ℕ, suc, _+_, _*_, _-_, _≤_, _<_}
 use native.Mathlib.Omega.{arith}
 use lib.ListN.{length, drop, length-map}
 use lib.Seq.{drop-drop}
 use Rattle.rules.specs.declared.Layout.{Layout}
-use Rattle.rules.specs.Marks.{Mark, TS, TK, ID, PV, size}
+use Rattle.rules.specs.Marks.{ID, PV, size}
 use Rattle.rules.specs.Image.{to-idle, to-inversion}
 use Rattle.rules.specs.Framing.{read, behind, behind-tasks, tables-in}
-use Rattle.rules.proofs.Held.{behind-drop}
+use Rattle.rules.proofs.Arrays.{read-length}
+use Rattle.rules.proofs.Held.{behind-drop, behind-tasks-drop}
 use Rattle.records.specs.Tables.{records-offset, inversions-offset, idle-in, inversion-in, idles-at, inversions-at, tables-at}
-
--- so many records are read
-read-length : (m : Mark) (many : ℕ) (bytes : List ℕ) → length (read m many bytes) ≡ many
-read-length m zero bytes = refl
-read-length m (suc many) bytes = ap suc (read-length m many (drop (size m) bytes))
 
 module _ (bytes : List ℕ) (at many : ℕ) where
   -- so many ID records are read
@@ -69,11 +65,9 @@ module _ (bytes : List ℕ) (at many j : ℕ) where
 pub tables-framed : (l : Layout) (bytes : List ℕ) → tables-in l bytes ≡ tables-at bytes (l .tasks) (l .listed) (l .inversions)
 unfolding idles-at inversions-at
 tables-framed l bytes =
-    let behind-set : behind-tasks l bytes ≡ drop (records-offset (l .tasks)) bytes =
-    behind-drop TK (l .tasks) (drop (size TS) bytes) ∙ drop-drop (l .tasks * size TK) (size TS) bytes in
     let behind-idles : behind ID (l .listed) (behind-tasks l bytes) ≡ drop (inversions-offset (l .tasks) (l .listed)) bytes =
     behind-drop ID (l .listed) (behind-tasks l bytes)
-    ∙ ap (drop (l .listed * size ID)) behind-set
+    ∙ ap (drop (l .listed * size ID)) (behind-tasks-drop l bytes)
     ∙ drop-drop (l .listed * size ID) (records-offset (l .tasks)) bytes in
     ap₂ (λ (a b : List ℕ). record { idles = map to-idle (read ID (l .listed) a); inversions = map to-inversion (read PV (l .inversions) b) })
-    behind-set behind-idles
+    (behind-tasks-drop l bytes) behind-idles

@@ -11,8 +11,9 @@ use Rattle.rules.specs.Tasks.{limits, no-task, task, jobs, GoodSet}
 use Rattle.rules.specs.Priority.{slot}
 use Rattle.records.specs.Fits.{SetFits, InTime, SlackOf}
 use Rattle.rules.specs.Dispatcher.{zero-task, zeros}
+use Rattle.rules.proofs.Arrays.{slot-element, slot-zeros, inside-alike}
 use Rattle.records.specs.Tables.{Filled}
-use Rattle.records.proofs.Arrays.{slot-element, inside-alike, same-slots, zeros-zero, filled-more}
+use Rattle.records.proofs.Arrays.{same-slots, filled-more}
 
 -- the task that is read from a slot inside a list
 pub task-read : (slots : List Task) (i : ℕ) → i < length slots → getD slots i zero-task ≡ task slots i
@@ -73,5 +74,5 @@ pub slack-kept : (s : TaskSet) (slack : List ℕ) (i : ℕ) → i ≡ s .n →
 slack-kept s slack i e f = record {
   slots = f .slots;
   of-tasks = λ k l. f .inside k (omega arith) (omega arith);
-  others = λ k l. f .above k (omega arith) ∙ zeros-zero 16 k;
+  others = λ k l. f .above k (omega arith) ∙ slot-zeros 16 k;
 }

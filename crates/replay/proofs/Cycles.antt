@@ -25,6 +25,7 @@ use Rattle.rules.specs.Judging.{judge-tables}
 use Rattle.rules.specs.Offsets.{last-offset, Source, lent, past-own, next-is, next-start}
 use Rattle.rules.specs.Dispatcher.{zero-task, zeros}
 use Rattle.rules.proofs.Cases.{by-bool, by-eq, by-le, clash}
+use Rattle.rules.proofs.Arrays.{slot-element, task-in-slot}
 use Rattle.rules.proofs.GoodSets.{a-job}
 use Rattle.rules.proofs.PriorityLaws.{slot-empty}
 use Rattle.rules.proofs.Images.{records-before}
@@ -34,7 +35,6 @@ use Rattle.rules.proofs.StandingTables.{read-stand}
 use Rattle.rules.proofs.StuckStarts.{by-next}
 use Rattle.rules.proofs.OffsetReplay.{Replays, zeros-same}
 use Rattle.rules.proofs.WastedRecords.{Wastes, wastes-begin, start-wastes, start-inverts, start-without, judged-late}
-use Rattle.records.proofs.Arrays.{slot-element}
 use Rattle.decision.specs.declared.Found.{Found}
 use Rattle.decision.specs.declared.NextStart.{NextStart as Answer}
 use Rattle.decision.specs.declared.NextStart.the-variants.{Starts, Stuck}
@@ -43,7 +43,6 @@ use Rattle.replay.specs.Releases.{tasks-of}
 use Rattle.replay.specs.Runs.{wasted-after, Place, Ends, entry-of, start-first, answer-at, behind, runs, AllReadIn, CanRun, CanReplay, first-releases, times-of, periods-of, cycle-start, cycle-of}
 use Rattle.replay.proofs.Stores.{start-stores}
 use Rattle.replay.proofs.Running.{runs-stuck, runs-last, runs-more}
-use Rattle.replay.proofs.NextReleases.{task-in-slot}
 use Rattle.replay.proofs.Walk.{WalkAt, WalkGoesOn, walk-begins, walk-cycle, walk-all, walk-left, walk-readable, walk-starts}
 
 -- where a run that found all starts of a cycle ended: next job numbers, free instant and tasks' offsets; replay of the tables stands there after
@@ -187,18 +186,18 @@ module _ {bytes : List ℕ} {s : TaskSet} {h : ℕ} {many slack : List ℕ} {fir
   time-in-slot : (i : ℕ) → i < s .n → getD (times-of s) i 0 ≡ task (tasks-of s) i .time
   time-in-slot i l =
       List·getD-map (λ (t : Task). t .time) (s .tasks) i zero-task
-      ∙ ap (λ (t : Task). t .time) (sym (task-in-slot s i zero-task (omega (arith, can .fits .few)) l))
+      ∙ ap (λ (t : Task). t .time) (sym (task-in-slot (s .tasks) (s .n) i zero-task (omega (arith, can .fits .few)) l))
 
   period-in-slot : (i : ℕ) → i < s .n → getD (periods-of s) i 0 ≡ task (tasks-of s) i .period
   period-in-slot i l =
       List·getD-map (λ (t : Task). t .period) (s .tasks) i zero-task
-      ∙ ap (λ (t : Task). t .period) (sym (task-in-slot s i zero-task (omega (arith, can .fits .few)) l))
+      ∙ ap (λ (t : Task). t .period) (sym (task-in-slot (s .tasks) (s .n) i zero-task (omega (arith, can .fits .few)) l))
 
   release-in-slot : (i : ℕ) → i < s .n → slot (first-releases s) i ≡ release (task (tasks-of s) i) (slot zeros i)
   release-in-slot i l =
       slot-element (first-releases s) i
       ∙ List·getD-map (λ (t : Task). t .offset) (s .tasks) i zero-task
-      ∙ ap (λ (t : Task). t .offset) (sym (task-in-slot s i zero-task (omega (arith, can .fits .few)) l))
+      ∙ ap (λ (t : Task). t .offset) (sym (task-in-slot (s .tasks) (s .n) i zero-task (omega (arith, can .fits .few)) l))
       ∙ rw (zeros-same (suc i) i (omega arith), slot-empty i) (omega arith)
 
   -- the next start from a place, the place behind it, and a run from there

@@ -7,7 +7,7 @@ use Prim.Native.Nat.{ℕ, zero, suc, _+_, _-_, _≤_, _<_}
 use native.Mathlib.Numerals.{add-one}
 use native.Mathlib.Omega.{arith}
 use lib.ListN.{length, getD, set, take, replicate, length-take, length-append, length-replicate}
-use lib.Seq.{set-at, append-snoc, take-suc, getD-take}
+use lib.Seq.{set-at, append-snoc, take-suc}
 use borrow.Author.Tests.{lt-ltb, le-ltb}
 use Rattle.fields.specs.Body.{head₀, tail₀}
 use Rattle.rules.specs.declared.Task.{Task}
@@ -15,12 +15,8 @@ use Rattle.rules.specs.declared.TaskSet.{TaskSet}
 use Rattle.rules.specs.Tasks.{limits, task, release}
 use Rattle.rules.specs.Priority.{slot}
 use Rattle.rules.proofs.Cases.{by-le}
-use Rattle.records.proofs.Arrays.{slot-element, inside-alike}
+use Rattle.rules.proofs.Arrays.{slot-element, task-in-slot}
 use Rattle.replay.specs.Releases.{tasks-of, next-releases, releases-of, ReleasesFit, none-before}
-
--- the tasks of a set in memory are in its first n slots
-pub task-in-slot : (s : TaskSet) (i : ℕ) (d : Task) → s .n ≤ length (s .tasks) → i < s .n → task (tasks-of s) i ≡ getD (s .tasks) i d
-task-in-slot s i d room l = getD-take (s .n) (s .tasks) i _ l ∙ inside-alike (s .tasks) i _ d (omega arith)
 
 -- there is a release for each task
 releases-counted : (ts : List Task) (x : List ℕ) → length (next-releases ts x) ≡ length ts
@@ -73,7 +69,7 @@ module _ (s : TaskSet) (x : List ℕ) where
   -- the release that a slot is filled with is a number of 32 bits
   pub release-fits : ReleasesFit s x → s .n ≤ length (s .tasks) → (i : ℕ) (d : Task) → i < s .n →
       release (getD (s .tasks) i d) (getD x i 0) ≤ 4294967295
-  release-fits f room i d l = rw (← task-in-slot s i d room l, ← slot-element x i) (f .fit i l)
+  release-fits f room i d l = rw (← task-in-slot (s .tasks) (s .n) i d room l, ← slot-element x i) (f .fit i l)
 
   -- the array when all slots are filled
   pub all-so-far : (i : ℕ) → i ≡ s .n → releases-so-far (s .tasks) x i ≡ releases-of s x

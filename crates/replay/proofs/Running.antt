@@ -18,13 +18,13 @@ use Rattle.rules.specs.Marks.{SL, size}
 use Rattle.rules.specs.Image.{record-of, of-entry, written}
 use Rattle.rules.specs.Offsets.{last-offset, lent, past-idle, next-is, stuck, next-start}
 use Rattle.rules.proofs.Cases.{by-eq, differ, clash}
+use Rattle.rules.proofs.Arrays.{slot-element}
 use Rattle.rules.proofs.GoodSets.{good-rules, good-positive}
 use Rattle.rules.proofs.Framed.{written-length}
 use Rattle.rules.proofs.PriorityLaws.{StartKeepsRules, keeps-rules, ends-in-cycle, setting-laws, slot-start-same, slot-start-other}
 use Rattle.rules.proofs.ForcedIdle.{released-in-cycle}
 use Rattle.rules.proofs.StuckStarts.{by-next}
 use Rattle.rules.proofs.NextTurns.{next-unreadable, next-idles, idle-ends, next-starts, next-refused, by-one-turn}
-use Rattle.records.proofs.Arrays.{slot-element}
 use Rattle.decision.specs.declared.Found.{Found}
 use Rattle.decision.specs.declared.NextStart.the-variants.{Starts, Stuck}
 use Rattle.decision.specs.Fits.{Fits}

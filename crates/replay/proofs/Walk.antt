@@ -4,7 +4,7 @@ use mathlib.Core.Path.{_≡_, refl, _∙_, ap}
 use mathlib.Core.Bool.{true, false}
 use mathlib.Core.List.{List, [], _∷_, _++_}
 use mathlib.Core.Option.{none}
-use Prim.Native.Nat.{ℕ, zero, suc, _+_, _-_, _≤_, _<_}
+use Prim.Native.Nat.{ℕ, suc, _+_, _-_, _≤_, _<_}
 use native.Mathlib.Omega.{arith}
 use lib.ListN.{length, getD, set, replicate, length-set, length-replicate, length-append}
 use borrow.Author.Tests.{lt-ltb, le-ltb}
@@ -12,7 +12,7 @@ use Rattle.fields.specs.Body.{head₀, tail₀}
 use Rattle.rules.specs.declared.Task.{Task}
 use Rattle.rules.specs.declared.Entry.{Entry}
 use Rattle.rules.specs.Refusals.{gives, refuses, refusal}
-use Rattle.rules.specs.Tasks.{limits, task, release, jobs, all-jobs, hyperperiod, GoodSet, set-fault}
+use Rattle.rules.specs.Tasks.{limits, task, release, jobs, all-jobs, hyperperiod, set-fault}
 use Rattle.rules.specs.Setting.{Tables}
 use Rattle.rules.specs.Priority.{slot, start-job, all-started, setting}
 use Rattle.rules.specs.Decision.{replay}
@@ -20,13 +20,15 @@ use Rattle.rules.specs.Offsets.{lent, past-own, next-is, next-start, tasks-read
 use Rattle.rules.specs.Dispatcher.{zeros}
 use Rattle.rules.proofs.Cases.{by-bool, by-le, clash}
 use Rattle.rules.proofs.GoodSets.{set-good, good-rules}
-use Rattle.rules.proofs.PriorityLaws.{slot-empty, due-in-cycle}
+use Rattle.rules.proofs.PriorityLaws.{slot-empty}
 use Rattle.rules.proofs.ValidTimetables.{jobs-left}
+use Rattle.rules.proofs.ForcedIdle.{released-in-cycle}
 use Rattle.rules.proofs.Shown.{from, shown-readable}
 use Rattle.rules.proofs.ShownAt.{Stand}
 use Rattle.rules.proofs.StuckStarts.{by-next}
 use Rattle.rules.proofs.OffsetReplay.{Replays, StartsNext, zeros-same, replay-begins, replay-starts, replay-stuck, replay-done, done-length}
 use Rattle.records.specs.Fits.{SetFits}
+use Rattle.records.proofs.OffsetsTold.{offsets-length}
 use Rattle.decision.specs.Fits.{Fits}
 use Rattle.decision.specs.declared.Found.{Found}
 use Rattle.decision.specs.declared.NextStart.the-variants.{Starts, Stuck}
@@ -44,11 +46,6 @@ pub record WalkAt (bytes : List ℕ) (ts : List Task) (X : Tables) (h n : ℕ) (
   pub next-slots : length next ≡ limits .tasks
   pub release-slots : length releases ≡ limits .tasks
   pub offset-slots : length offsets ≡ limits .tasks
-
--- a job's release is before the end of the cycle
-pub released-in-cycle : {ts : List Task} {h : ℕ} → GoodSet ts h → (i k : ℕ) → k < jobs h (task ts i) → release (task ts i) k < h
-released-in-cycle {ts} {h} good i k left =
-    omega (arith, due-in-cycle h k (task ts i) (good-rules good i) left, good-rules good i .takes-time, good-rules good i .fits)
 
 -- numbers that lie before an instant exactly where jobs are left
 none-before-left : (h : ℕ) (ts : List Task) (x releases : List ℕ) →
@@ -70,7 +67,7 @@ all-past-started {ts} {h} {n} {many} {slack} {next} {releases} fits =
     let as-task : (i : ℕ) → i < length ts → i < n = λ i l. omega (arith, fits .set .n-tasks) in
     rw (fits .set .n-tasks)
     (none-before-left h ts next releases
-    (λ i l k. rw (fits .releases-there i (as-task i l)) (released-in-cycle (fits .set .good) i (slot next i) k))
+    (λ i l k. rw (fits .releases-there i (as-task i l)) (released-in-cycle h (task ts i) (slot next i) (good-rules (fits .set .good) i) k))
     (λ i l k. by-le h (slot releases i) (λ past. past) (λ before. absurd (omega (arith, left-before fits i (as-task i l) before)))))
 
 -- where no job is left all have started
@@ -78,11 +75,6 @@ none-left-started : (h : ℕ) (ts : List Task) (x : List ℕ) → jobs-left h ts
 none-left-started h [] x e = refl
 none-left-started h (t ∷ ts) x e =
     rw (le-ltb (head₀ x) (jobs h t) (omega arith), all-started) (none-left-started h ts (tail₀ x) (omega arith))
-
--- there is an offset for each task
-offsets-counted : (ts : List Task) (X : Tables) (i many : ℕ) → length (inversion-offsets ts X i many) ≡ many
-offsets-counted ts X i zero = refl
-offsets-counted ts X i (suc many) = ap suc (offsets-counted ts X (suc i) many)
 
 -- the start of a task's next job, and where the walk stands after it
 pub record WalkGoesOn (bytes : List ℕ) (ts : List Task) (X : Tables) (h n : ℕ) (many slack : List ℕ) (σ : List Entry) (next releases offsets : List ℕ)
@@ -110,7 +102,7 @@ module _ {bytes : List ℕ} {ts : List Task} {X : Tables} {before : ℕ} (st : S
       its-set .few,
       its-set .n-tasks,
       length-append (inversion-offsets ts X 0 (length ts)) (replicate {A = ℕ} (limits .tasks - length ts) 0),
-      offsets-counted ts X 0 (length ts),
+      offsets-length ts X 0 (length ts),
       length-replicate {A = ℕ} (limits .tasks - length ts) 0,
     );
   }

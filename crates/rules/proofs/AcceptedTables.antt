@@ -31,13 +31,13 @@ use Rattle.rules.proofs.Serving.{first-turn, Served}
 -- tables that are accepted with a timetable
 module _ (ts : List Task) (X : Tables) (τ : List Entry) (judged : judge-tables ts X ≡ gives τ) where
   -- the set and the records have no fault
-  no-faults : (set-fault ts ≡ none) × (records-fault ts (hyperperiod ts) X ≡ none)
+  pub no-faults : (set-fault ts ≡ none) × (records-fault ts (hyperperiod ts) X ≡ none)
   no-faults =
       first-none (set-fault ts) (records-fault ts (hyperperiod ts) X)
       (or-else-gives (first (set-fault ts) (records-fault ts (hyperperiod ts) X)) _ τ judged .0)
 
   -- the timetable has no fault, and the tables are its own
-  its-tables : (timetable-fault ts τ ≡ none) × (tables ts τ ≡ X)
+  pub its-tables : (timetable-fault ts τ ≡ none) × (tables ts τ ≡ X)
   its-tables =
       let a = or-else-gives (first (set-fault ts) (timetable-fault ts τ)) (gives (tables ts τ)) X (timetable-judged ts X τ judged) in
       (first-none (set-fault ts) (timetable-fault ts τ) (a .0) .1, gives-in (tables ts τ) X (a .1))
@@ -51,8 +51,8 @@ module _ (ts : List Task) (X : Tables) (τ : List Entry) (judged : judge-tables 
   valid-from = entries-valid (setting ts) (missing-from 0 (hyperperiod ts) ts) τ (suc (length ts)) [] 0 (its-tables .0)
 
   -- replay gives it back
-  whole : replay (setting ts) [] X ≡ gives τ
-  whole = rw (← its-tables .1) (round-trip (setting ts) (laws ts (no-faults .0)) valid-from)
+  pub replayed : replay (setting ts) [] X ≡ gives τ
+  replayed = rw (← its-tables .1) (round-trip (setting ts) (laws ts (no-faults .0)) valid-from)
 
   module _ (bytes : List ℕ) (are-bytes : Bytes bytes) (read : read-tables bytes ≡ gives (record { tasks = ts; tables = X })) where
     -- in an image they stand behind the tasks
@@ -66,7 +66,7 @@ module _ (ts : List Task) (X : Tables) (τ : List Entry) (judged : judge-tables 
       good = good-set ts (no-faults .0);
       laws = laws ts (no-faults .0);
       pairs = keep-rules .pairs;
-      whole = whole;
+      whole = replayed;
       valid = no-fault-valid ts τ .0 (its-tables .0);
       idles-first = first-idles stand;
       inversions-first = first-inversions stand;

@@ -37,6 +37,10 @@ behind-drop m (suc many) bytes =
     let one-more : size m + many * size m ≡ suc many * size m = omega arith in
     behind-drop m many (drop (size m) bytes) ∙ drop-drop (many * size m) (size m) bytes ∙ ap (λ (o : ℕ). drop o bytes) one-more
 
+-- behind the tasks is behind TS and so many TK
+pub behind-tasks-drop : (l : Layout) (bytes : List ℕ) → behind-tasks l bytes ≡ drop (size TS + l .tasks * size TK) bytes
+behind-tasks-drop l bytes = behind-drop TK (l .tasks) (drop (size TS) bytes) ∙ drop-drop (l .tasks * size TK) (size TS) bytes
+
 -- records that are read are the first of them and those behind
 pub read-both : (m : Mark) (many others : ℕ) (bytes : List ℕ) → read m (many + others) bytes ≡ read m many bytes ++ read m others (behind m many bytes)
 read-both m zero others bytes =

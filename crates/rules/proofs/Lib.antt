@@ -6,6 +6,7 @@ pub mod RoundTrip
 pub mod Derived
 pub mod Replayed
 pub mod PriorityLaws
+pub mod Arrays
 pub mod NextStart
 pub mod Hyperperiod
 pub mod FirstTests

@@ -32,6 +32,7 @@ use Rattle.rules.proofs.RoundTrip.{decided-by, recorded-some, turn-idle
 use Rattle.rules.proofs.Derived.{rising-from}
 use Rattle.rules.proofs.Replayed.{by-decision}
 use Rattle.rules.proofs.PriorityLaws.{slot-empty, slot-start-same, slot-start-other, StartKeepsRules, keeps-rules, breaks-none, priority-runs, ends-in-cycle}
+use Rattle.rules.proofs.Arrays.{slot-zeros}
 use Rattle.rules.proofs.GoodSets.{good-set, good-rules}
 use Rattle.rules.proofs.ValidTimetables.{jobs-left, all-left, none-left, one-left}
 use Rattle.rules.proofs.JudgedTables.{laws}
@@ -44,7 +45,6 @@ use Rattle.rules.proofs.Starts.{Placed, past-idle-shown, decided-as-tab
 use Rattle.rules.proofs.Slots.{Same, replay-same, start-same, priority-same, counts-zero, counts-start}
 use Rattle.rules.proofs.PossibleStates.{counts-say}
 use Rattle.rules.proofs.ShownAt.{is-lower, is-not-lower, slot-first, Stand, first-idles, first-inversions}
-use Rattle.rules.proofs.Serving.{slot-zeros}
 use Rattle.rules.proofs.OneMoreStart.{starts-before, starts-before-more, starts-before-end, starts-before-refusal, after-starts, after-one-more, jobs-left-same, forced-idles-same, inversions-other, inversions-own}
 
 -- the offset of the first PV, or of EN where there is none

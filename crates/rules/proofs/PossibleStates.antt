@@ -161,13 +161,13 @@ pub stopped-is-stopped : is-stopped stopped ≡ true
 stopped-is-stopped = refl
 
 -- a task has four numbers
-length-task-numbers : (ts : List Task) → length (task-numbers ts) ≡ 4 * length ts
-length-task-numbers [] = refl
-length-task-numbers (t ∷ ts) = omega (arith, length-task-numbers ts)
+pub four-each : (ts : List Task) → length (task-numbers ts) ≡ 4 * length ts
+four-each [] = refl
+four-each (t ∷ ts) = omega (arith, four-each ts)
 
 -- a state has 119 numbers
 pub count-numbers : (s : State) → Shaped s → length (numbers s) ≡ number-count
-count-numbers s w = simp (length-append, length-task-numbers) (omega (arith, w))
+count-numbers s w = simp (length-append, four-each) (omega (arith, w))
 
 -- where all jobs have started no task has one left
 pub none-left : (h : ℕ) (ts : List Task) (x : List ℕ) → all-started h ts x ≡ true → (i : ℕ) → i < length ts → jobs h (task ts i) ≤ slot x i

@@ -3,7 +3,7 @@ use mathlib.Core.Path.{_≡_, refl, sym, _∙_, ap}
 use mathlib.Core.Bool.{true, false}
 use mathlib.Core.List.{List, []}
 use mathlib.Core.Option.{none}
-use Prim.Native.Nat.{ℕ, zero, suc, _+_, _*_, _-_, _≤_, _<_}
+use Prim.Native.Nat.{ℕ, suc, _+_, _*_, _-_, _≤_, _<_}
 use native.Mathlib.Omega.{arith}
 use lib.Dec.{ltb}
 use lib.ListN.{length, take, drop, replicate, drop-of-length-le}
@@ -28,6 +28,7 @@ use Rattle.rules.specs.Calls.{start-of}
 use Rattle.rules.proofs.Cases.{by-eq, both-in}
 use Rattle.rules.proofs.Theory.{Laws, Pairs}
 use Rattle.rules.proofs.PriorityLaws.{slot-empty, keeps-rules, slot-start-same, slot-start-other}
+use Rattle.rules.proofs.Arrays.{slot-zeros}
 use Rattle.rules.proofs.NextStart.{replay-next, replay-end}
 use Rattle.rules.proofs.Positions.{count-more, count-same}
 use Rattle.rules.proofs.Shown.{ShowsIdles, ShowsInversions, from, slot-front}
@@ -42,12 +43,6 @@ answered a s = record { answer = Start a; state = s }
 abbrev pub first-turn : List ℕ → List Task → Tables → Turn
 first-turn bytes ts X =
     start-next bytes (fresh (record { tasks = ts; tables = X })) 0 zeros 0 (first-offsets ts X .inversions) (first-offsets ts X .idle)
-
--- with nothing started every slot holds 0
-pub slot-zeros : (m i : ℕ) → slot (replicate m 0) i ≡ 0
-slot-zeros zero i = slot-empty i
-slot-zeros (suc m) zero = refl
-slot-zeros (suc m) (suc i) = slot-zeros m i
 
 -- next job numbers that count the entries before entry r count, after it has started, those before the next
 counts-more : (n : ℕ) (τ : List Entry) (r : ℕ) → r < length τ → (x : List ℕ) → ((i : ℕ) → i < n → slot x i ≡ count i (take r τ)) →

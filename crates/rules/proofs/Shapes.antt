@@ -62,7 +62,7 @@ all-slots (w ∷ ws) [] h = absurd h
 all-slots (w ∷ ws) (x ∷ v) h = ap (λ (y : List ℕ). x ∷ y) (all-slots ws v (h .1))
 
 -- a mark that comes after the tasks is in its turn where none of a higher rank has stood
-in-later-turn : (least rank : ℕ) → 2 ≤ least → least ≤ rank → may-follow least rank ≡ true
+pub in-later-turn : (least rank : ℕ) → 2 ≤ least → least ≤ rank → may-follow least rank ≡ true
 in-later-turn least rank h k = rw (le-ltb least 2 h, may-follow) (le-leb least rank k)
 
 -- the records that framing goes on behind, each with the ranks that it can follow

@@ -51,7 +51,8 @@ past-idle-shown (no-idle e) = rw e (no-idle e)
 past-idle-shown (an-idle e s) = rw e s
 
 -- the first entry of a valid timetable breaks no rule
-valid-first : {G : Setting} {x : G .Started} {f : ℕ} {e : Entry} {τ : List Entry} → ValidFrom G x f (e ∷ τ) → G .breaks x f (e .task) (e .start) ≡ 0
+pub valid-first : {G : Setting} {x : G .Started} {f : ℕ} {e : Entry} {τ : List Entry} → ValidFrom G x f (e ∷ τ) →
+    G .breaks x f (e .task) (e .start) ≡ 0
 valid-first (entry v w) = v
 
 module _ (G : Setting) (S : Source) (p : List Inversion) where

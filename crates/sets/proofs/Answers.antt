@@ -11,8 +11,8 @@ use Rattle.rules.specs.declared.TaskSet.{TaskSet}
 use Rattle.rules.specs.declared.Refusal.{Refusal}
 use Rattle.rules.specs.declared.SetAnswer.the-variants.{Good, Refused}
 use Rattle.rules.specs.Refusals.{refusal, gives, or-else, first, unless}
-use Rattle.rules.specs.Tasks.{limits, all-jobs, hyperperiod, few-enough, tasks-fault, figures, set-answer, judge-set}
-use Rattle.rules.proofs.Cases.{both-in}
+use Rattle.rules.specs.Tasks.{limits, all-jobs, hyperperiod, few-enough, tasks-fault, figures, set-answer, judge-set, memory-fault}
+use Rattle.rules.proofs.Cases.{by-option, both-in, clash}
 use Rattle.sets.specs.Sets.{capped}
 use Rattle.sets.proofs.Slots.{first-tasks}
 use Rattle.sets.proofs.Multiples.{told-within, told-long}
@@ -69,3 +69,9 @@ module _ {s : TaskSet} (m : InSlots s) where
       -- a good set
       pub answered-good : k ≤ limits .jobs → Good (record { hyperperiod = h; jobs = k }) ≡ judge-set s
       answered-good l = sym (judged ∙ rw (no-fault, is, le-leb h (limits .ticks) short, ← f, le-leb k (limits .jobs) l))
+
+-- a set that is refused has that fault
+pub refused-fault : (s : TaskSet) (r : Refusal) → Refused r ≡ judge-set s → memory-fault s ≡ some r
+unfolding judge-set
+refused-fault s r e =
+    by-option (memory-fault s) (λ z. clash (let y = rw z at e in cc)) (λ q z. z ∙ (let y = rw z at e in cc))

@@ -1,17 +1,13 @@
 -- The slots of a set: the first n of them from a place on, and one slot more or less. Assumes nothing.
 use mathlib.Core.Path.{_≡_, sym, _∙_, ap₂}
-use mathlib.Core.List.{List, [], _∷_, map}
+use mathlib.Core.List.{List, [], _∷_}
 use Prim.Native.Nat.{ℕ, suc, _+_, _-_, _≤_, _<_}
 use native.Mathlib.Omega.{arith}
 use native.Mathlib.Numerals.{add-one}
-use lib.ListN.{length, take, drop, getD, length-take, length-map, drop-of-length-le}
+use lib.ListN.{length, take, drop, getD, length-take, drop-of-length-le}
 use lib.Seq.{slice-cons}
 use Rattle.rules.specs.declared.Task.{Task}
 use Rattle.rules.specs.declared.TaskSet.{TaskSet}
-
--- there are as many slots as there are fields of slots
-pub slots-counted : {B : Type 0} (fields : Task → B) (slots : List Task) (n : ℕ) → length (map fields slots) ≡ n → length slots ≡ n
-slots-counted fields slots n e = sym (length-map slots fields) ∙ e
 
 -- the first n tasks of a set
 abbrev pub first-tasks : TaskSet → List Task

@@ -19,7 +19,7 @@ use Rattle.rules.specs.declared.Refusal.{Refusal}
 use Rattle.rules.specs.declared.SetAnswer.the-variants as set-case
 use Rattle.rules.specs.declared.CheckAnswer.the-variants as check-case
 use Rattle.rules.specs.Refusals.{Judged, gives, refuses, refusal}
-use Rattle.rules.specs.Tasks.{limits, jobs, all-jobs, hyperperiod, GoodSet, few-enough, set-fault, memory-fault, judge-set}
+use Rattle.rules.specs.Tasks.{limits, jobs, all-jobs, hyperperiod, GoodSet, few-enough, set-fault, judge-set}
 use Rattle.rules.specs.Setting.{Tables}
 use Rattle.rules.specs.Judging.{records-fault, judge-tables}
 use Rattle.rules.specs.Marks.{EN, size}
@@ -27,7 +27,7 @@ use Rattle.rules.specs.Framing.{frame, tasks-in, tables-in}
 use Rattle.rules.specs.Offsets.{first-offsets}
 use Rattle.rules.specs.Operations.{read-tables, rebuilt, check-answer, check-tables}
 use Rattle.rules.specs.Dispatcher.{zero-task}
-use Rattle.rules.proofs.Cases.{by-option, by-judged, clash, both-in}
+use Rattle.rules.proofs.Cases.{by-judged, clash, both-in}
 use Rattle.rules.proofs.GoodSets.{set-good}
 use Rattle.rules.proofs.Images.{records-before, framed-tables, table-image-length}
 use Rattle.rules.proofs.RefusalNumbers.{table-numbers}
@@ -35,6 +35,7 @@ use Rattle.rules.proofs.ShownAt.{Stand}
 use Rattle.rules.proofs.StandingTables.{read-stand}
 use Rattle.sets.specs.Sets.{FirstFault}
 use Rattle.sets.proofs.Faults.{told-none, told-fault}
+use Rattle.sets.proofs.Answers.{refused-fault}
 use Rattle.sets.proofs.Promises.{good-exactly}
 use Rattle.framing.specs.declared.FrameAnswer.{FrameAnswer}
 use Rattle.framing.specs.declared.FrameAnswer.the-variants as frame-case
@@ -68,12 +69,6 @@ pub judged-by-framing : (bytes : List ℕ) (t : Judgement) (a : FrameAnswer) →
     a ≡ frame-case.Refused r → t ≡ refused-with r → JudgedAs bytes t
 judged-by-framing bytes t a e r is t-is =
     let f : frame 2 bytes ≡ refuses r = refused-is (frame 2 bytes) r (sym is ∙ e) in judged-refused bytes t r (rw f) t-is
-
--- a set that is refused has that fault
-refused-fault : (s : TaskSet) (r : Refusal) → set-case.Refused r ≡ judge-set s → memory-fault s ≡ some r
-unfolding judge-set
-refused-fault s r e =
-    by-option (memory-fault s) (λ z. clash (let y = rw z at e in cc)) (λ q z. z ∙ (let y = rw z at e in cc))
 
 -- a refusal told is the image's, and none told is none
 refusal-is : {A : Type 0} (z : Judged A) (r : Refusal) → refusal-in z ≡ some r → z ≡ refuses r

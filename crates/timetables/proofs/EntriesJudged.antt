@@ -17,6 +17,7 @@ use Rattle.rules.specs.Judging.{entries-fault, missing-from}
 use Rattle.rules.specs.Marks.{SL, size}
 use Rattle.rules.proofs.Cases.{by-nat}
 use Rattle.rules.proofs.PriorityLaws.{StartKeepsRules, keeps-rules}
+use Rattle.rules.proofs.Arrays.{task-in-slot}
 use Rattle.framing.specs.SetRead.{tasks-offset}
 use Rattle.timetables.specs.Walks.{start-breaks, lowest-below}
 use Rattle.timetables.specs.Entries.{entry-in, entries-at}
@@ -24,7 +25,7 @@ use Rattle.timetables.specs.Judged.{tasks-of, fault-behind}
 use Rattle.timetables.proofs.EntriesRead.{entry-left, no-entry-left}
 use Rattle.timetables.proofs.Releases.{good-releases}
 use Rattle.timetables.proofs.StartRules.{breaks-no-task, lowest-missing, missing-not-all, none-missing-all}
-use Rattle.timetables.proofs.Turns.{AtEntry, stands-good, room, tasks-many, task-in-slot, breaks-in-slots, turn-next}
+use Rattle.timetables.proofs.Turns.{AtEntry, stands-good, room, tasks-many, breaks-in-slots, turn-next}
 
 -- the first fault from a point of a timetable on
 abbrev fault-from : TaskSet → ℕ → ℕ → List ℕ → ℕ → List Entry → Option Refusal

@@ -1,25 +1,23 @@
--- Tasks and entries read one behind the other from a framed image are those that framing hands on, and lie inside the image. Assumes nothing.
+-- Entries read one behind the other from a framed image are those that framing hands on, and lie inside the image. Assumes nothing.
 use mathlib.Core.Path.{_≡_, refl, sym, _∙_, ap, ap₂}
 use mathlib.Core.List.{List, [], _∷_, map}
 use Prim.Native.Nat.{ℕ, zero, suc, _+_, _*_, _-_, _≤_, _<_}
 use native.Mathlib.Omega.{arith}
-use lib.ListN.{length, take, drop, replicate, length-map}
-use lib.Seq.{drop-drop, take-at}
+use lib.ListN.{length, drop, length-map}
+use lib.Seq.{drop-drop}
 use Rattle.fields.specs.Number.{Bytes}
 use Rattle.rules.specs.declared.Layout.{Layout}
-use Rattle.rules.specs.declared.TaskSet.{TaskSet}
 use Rattle.rules.specs.Refusals.{gives}
 use Rattle.rules.specs.Tasks.{limits}
-use Rattle.rules.specs.Marks.{Mark, TS, TK, SL, EN, size}
+use Rattle.rules.specs.Marks.{TS, TK, SL, EN, size}
 use Rattle.rules.specs.Image.{to-task, to-entry}
 use Rattle.rules.specs.Framing.{frame, read, behind-tasks, tasks-in, entries-in}
 use Rattle.rules.specs.Operations.{Timed, read-timetable}
-use Rattle.rules.specs.Dispatcher.{zero-task}
-use Rattle.rules.proofs.Held.{behind-drop}
+use Rattle.rules.proofs.Arrays.{read-length}
+use Rattle.rules.proofs.Held.{behind-tasks-drop}
 use Rattle.rules.proofs.Images.{framed-timetable, timetable-image-length}
 use Rattle.images.proofs.BodyLaws.{entry-body-is}
-use Rattle.framing.specs.SetRead.{tasks-offset, set-read}
-use Rattle.framing.proofs.RoomLaws.{framed-set}
+use Rattle.framing.specs.SetRead.{tasks-offset}
 use Rattle.timetables.specs.Entries.{entry-in, entries-at}
 
 module _ (bytes : List ℕ) (at listed j : ℕ) where
@@ -38,11 +36,6 @@ pub entries-length : (bytes : List ℕ) (at many : ℕ) → length (entries-at b
 unfolding entries-at
 entries-length bytes at zero = refl
 entries-length bytes at (suc many) = ap suc (entries-length bytes (at + size SL) many)
-
--- records of a mark read from an offset on
-read-length : (m : Mark) (many : ℕ) (bytes : List ℕ) → length (read m many bytes) ≡ many
-read-length m zero bytes = refl
-read-length m (suc many) bytes = ap suc (read-length m many (drop (size m) bytes))
 
 -- entries that lie in an image are those of the SL records there
 entries-are : (bytes : List ℕ) (at many : ℕ) → at + many * size SL ≤ length bytes →
@@ -87,15 +80,9 @@ module _ (bytes : List ℕ) (l : Layout) (b : Bytes bytes) (framed : frame 1 byt
         long = ap length (w .1) ∙ timetable-image-length (tasks-in l bytes) (entries-in l bytes) ∙ omega (arith, tasks-many, entries-many);
       }
 
-  -- the tasks of a framed image stand in the first slots of the set that is read
-  pub tasks-framed : take (l .tasks) (set-read (l .tasks) bytes .tasks) ≡ tasks-in l bytes
-  tasks-framed =
-      ap (λ (s : TaskSet). take (l .tasks) (s .tasks)) (framed-set 1 bytes l framed)
-      ∙ take-at (tasks-in l bytes) (replicate (16 - l .tasks) zero-task) (l .tasks) tasks-many
-
-  -- and its entries at their places behind the tasks
+  -- its entries stand at their places behind the tasks
   pub entries-framed : entries-at bytes (tasks-offset (l .tasks)) (l .listed) ≡ entries-in l bytes
   entries-framed =
       entries-are bytes (tasks-offset (l .tasks)) (l .listed) (omega (arith, spans .long))
       ∙ ap (λ (rest : List ℕ). map to-entry (read SL (l .listed) rest))
-      (sym (behind-drop TK (l .tasks) (drop (size TS) bytes) ∙ drop-drop (l .tasks * size TK) (size TS) bytes))
+      (sym (behind-tasks-drop l bytes))

@@ -17,13 +17,14 @@ use Rattle.rules.specs.declared.Refusal.{Refusal}
 use Rattle.rules.specs.declared.SetAnswer.the-variants as set-case
 use Rattle.rules.specs.declared.CheckAnswer.the-variants as check-case
 use Rattle.rules.specs.Refusals.{gives, refuses, refusal}
-use Rattle.rules.specs.Tasks.{few-enough, set-fault, memory-fault, judge-set}
+use Rattle.rules.specs.Tasks.{few-enough, set-fault, judge-set}
 use Rattle.rules.specs.Marks.{SL, row, size}
 use Rattle.rules.specs.Framing.{frame, tasks-in, entries-in}
 use Rattle.rules.specs.Operations.{read-timetable, derived, check-answer, check-timetable}
-use Rattle.rules.proofs.Cases.{by-option, clash, both-in}
+use Rattle.rules.proofs.Cases.{both-in}
 use Rattle.rules.proofs.GoodSets.{set-good}
 use Rattle.rules.proofs.RefusalNumbers.{timetable-numbers}
+use Rattle.sets.proofs.Answers.{refused-fault}
 use Rattle.sets.proofs.Promises.{good-exactly}
 use Rattle.framing.specs.declared.FrameAnswer.{FrameAnswer}
 use Rattle.framing.specs.declared.FrameAnswer.the-variants as frame-case
@@ -31,12 +32,13 @@ use Rattle.framing.specs.declared.TasksAnswer.{TasksAnswer}
 use Rattle.framing.specs.declared.TasksAnswer.the-variants as tasks-case
 use Rattle.framing.specs.SetRead.{tasks-offset, set-read}
 use Rattle.framing.specs.Frames.{TasksFramed, Reached, BehindTasks, frame-answer}
+use Rattle.framing.proofs.RoomLaws.{tasks-framed}
 use Rattle.framing.proofs.Promises.{framed-is, refused-is}
 use Rattle.timetables.specs.declared.Timetable.{Timetable}
 use Rattle.timetables.specs.declared.Walk.{Walk}
 use Rattle.timetables.specs.Entries.{entries-at}
 use Rattle.timetables.specs.Judged.{tasks-of, entries-behind, fault-behind, EntriesStand, Walked, refused-with, Good, JudgedAs}
-use Rattle.timetables.proofs.EntriesRead.{Spans, spans, tasks-many, tasks-framed, entries-framed}
+use Rattle.timetables.proofs.EntriesRead.{Spans, spans, tasks-many, entries-framed}
 use Rattle.timetables.proofs.PlacesReached.{Stood, reached-at, framed-tasks, all-listed, more-listed}
 
 -- what refuses an image has a number
@@ -66,12 +68,6 @@ pub judged-by-framing : (bytes : List ℕ) (count : Bool) (t : Timetable) (a : F
     a ≡ frame-case.Refused r → t ≡ refused-with r → JudgedAs bytes count t
 judged-by-framing bytes count t a e r is t-is =
     let f : frame 1 bytes ≡ refuses r = refused-is (frame 1 bytes) r (sym is ∙ e) in judged-refused bytes count t r (rw f) t-is
-
--- a set that is refused has that fault
-refused-fault : (s : TaskSet) (r : Refusal) → set-case.Refused r ≡ judge-set s → memory-fault s ≡ some r
-unfolding judge-set
-refused-fault s r e =
-    by-option (memory-fault s) (λ z. clash (let y = rw z at e in cc)) (λ q z. z ∙ (let y = rw z at e in cc))
 
 -- as many tasks are read as are asked for
 set-many : (n : ℕ) (bytes : List ℕ) → set-read n bytes .n ≡ n
@@ -110,7 +106,7 @@ module _ (bytes : List ℕ) (b : Bytes bytes) (p : Place) (re : Reached 1 bytes 
     its-tasks : tasks-of s ≡ tasks-in l bytes
     its-tasks =
         let s-is : s ≡ set-read (l .tasks) bytes = is ∙ ap (λ (n : ℕ). set-read n bytes) (sym same) in
-        ap₂ take its-many (ap (λ (x : TaskSet). x .tasks) s-is) ∙ tasks-framed bytes l b framed
+        ap₂ take its-many (ap (λ (x : TaskSet). x .tasks) s-is) ∙ tasks-framed 1 bytes l framed
 
     -- it is read as this set and the entries behind it
     read-so : read-timetable bytes ≡ gives (record { tasks = tasks-of s; entries = entries-behind bytes s (l .listed) })

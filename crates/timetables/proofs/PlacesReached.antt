@@ -11,11 +11,12 @@ use Rattle.rules.specs.Refusals.{gives}
 use Rattle.rules.specs.Marks.{SL, row, size}
 use Rattle.rules.specs.Framing.{after-listed, goes-on, frame}
 use Rattle.rules.proofs.Cases.{by-nat}
+use Rattle.rules.proofs.Shapes.{in-later-turn}
 use Rattle.images.specs.Table.{stands-at}
 use Rattle.framing.specs.SetRead.{tasks-offset}
 use Rattle.framing.specs.Frames.{Reached, BehindTasks}
 use Rattle.framing.proofs.PlaceLaws.{place-path}
-use Rattle.framing.proofs.Runs.{Apart, in-turn, past-run}
+use Rattle.framing.proofs.Runs.{Apart, past-run}
 use Rattle.framing.proofs.Entries.{entry-counted, no-entry-more, same-tasks}
 
 -- the least rank behind so many entries
@@ -54,7 +55,7 @@ reached-behind : (bytes : List ℕ) (n k : ℕ) → Reached 1 bytes (place-behin
 reached-behind bytes n k re stood =
     let apart : Apart 1 SL (tasks-offset n) k (place-behind n) = record {
       at = λ j. refl;
-      in-turn = λ j l. in-turn (entries-rank j) (row SL .rank) (rank-low j .0) (rank-low j .1);
+      in-turn = λ j l. in-later-turn (entries-rank j) (row SL .rank) (rank-low j .0) (rank-low j .1);
       leads = λ j l v. ap goes-on (next-behind n j);
     } in
     past-run SL (tasks-offset n) k (place-behind n) refl apart stood re k (omega arith)

@@ -7,7 +7,6 @@ use native.Mathlib.Omega.{arith}
 use native.Mathlib.Nat.{suc-mul, mul-le-mul-right, div-mul-cancel}
 use lib.Dec.{ltb}
 use lib.ListN.{length, getD, set, take}
-use lib.Seq.{drop-cons}
 use borrow.Author.Tests.{lt-ltb, le-ltb}
 use Rattle.fields.specs.Body.{head₀, tail₀}
 use Rattle.rules.specs.declared.Task.{Task}
@@ -16,13 +15,6 @@ use Rattle.rules.specs.Priority.{slot, start-job}
 use Rattle.rules.proofs.Cases.{by-le}
 use Rattle.rules.proofs.PriorityLaws.{slot-empty, due-in-cycle}
 use Rattle.timetables.specs.Walks.{next-releases}
-
--- inside a list it does not matter what stands for places outside
-pub any-default : {A : Type 0} (xs : List A) (i : ℕ) (d e : A) → i < length xs → getD xs i d ≡ getD xs i e
-any-default xs i d e l =
-    let a = drop-cons xs i d l in
-    let b = drop-cons xs i e l in
-    cc
 
 -- there is a next release for each task
 pub releases-length : (ts : List Task) (x : List ℕ) → length (next-releases ts x) ≡ length ts

@@ -14,16 +14,9 @@ use Rattle.rules.specs.Tasks.{task, release, jobs}
 use Rattle.rules.specs.Priority.{slot, all-started, entry-breaks}
 use Rattle.rules.specs.Judging.{missing-from}
 use Rattle.rules.proofs.Cases.{by-bool}
-use Rattle.rules.proofs.PriorityLaws.{slot-empty}
+use Rattle.rules.proofs.Arrays.{slot-element}
 use Rattle.timetables.specs.Walks.{next-releases, start-breaks, lowest-below}
 use Rattle.timetables.proofs.Releases.{LeftByRelease}
-
--- a slot is an element, 0 past the end
-slot-getD : (x : List ℕ) (i : ℕ) → slot x i ≡ getD x i 0
-slot-getD [] zero = refl
-slot-getD [] (suc i) = slot-empty i
-slot-getD (a ∷ x) zero = refl
-slot-getD (a ∷ x) (suc i) = slot-getD x i
 
 module _ (ts : List Task) (h : ℕ) (x : List ℕ) (f i s : ℕ) where
   -- an entry of no task breaks 11
@@ -80,13 +73,13 @@ module _ (n i h : ℕ) (rs : List ℕ) where
   pub scan-ends : i < n → getD rs i 0 < h → lowest-below (n - i) i h rs ≡ i
   scan-ends l b =
       let e : n - i ≡ suc (n - suc i) = omega arith in
-      rw (e, lt-ltb (slot rs i) h (omega (arith, slot-getD rs i)), lowest-below)
+      rw (e, lt-ltb (slot rs i) h (omega (arith, slot-element rs i)), lowest-below)
 
   -- it goes on past one that is not
   pub scan-goes : i < n → h ≤ getD rs i 0 → lowest-below (n - i) i h rs ≡ lowest-below (n - (i + 1)) (i + 1) h rs
   scan-goes l b =
       let e : n - i ≡ suc (n - suc i) = omega arith in
-      rw (e, le-ltb (slot rs i) h (omega (arith, slot-getD rs i)), add-one i, lowest-below)
+      rw (e, le-ltb (slot rs i) h (omega (arith, slot-element rs i)), add-one i, lowest-below)
 
   -- it ends behind the last slot
   pub scan-past : n ≤ i → lowest-below (n - i) i h rs ≡ i

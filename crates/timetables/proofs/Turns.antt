@@ -7,7 +7,7 @@ use Prim.Native.Nat.{ℕ, suc, _+_, _*_, _-_, max, _≤_, _<_}
 use native.Mathlib.Omega.{arith}
 use native.Mathlib.Nat.{le-of-dvd}
 use lib.ListN.{length, getD, set, take}
-use lib.Seq.{getD-take, take-take, length-take-le}
+use lib.Seq.{take-take, length-take-le}
 use Rattle.rules.specs.declared.Task.{Task}
 use Rattle.rules.specs.declared.TaskSet.{TaskSet}
 use Rattle.rules.specs.declared.Entry.{Entry}
@@ -17,6 +17,7 @@ use Rattle.rules.specs.Setting.{Setting, instant}
 use Rattle.rules.specs.Priority.{slot, start-job, by-priority, entry-breaks, setting-of}
 use Rattle.rules.specs.Marks.{SL, size}
 use Rattle.rules.specs.Irregularities.{runs, forced-idles, inversion-of, inversions}
+use Rattle.rules.proofs.Arrays.{task-in-slot}
 use Rattle.rules.proofs.GoodSets.{good-set, good-rules, good-positive}
 use Rattle.rules.proofs.PriorityLaws.{StartKeepsRules, due-in-cycle}
 use Rattle.rules.proofs.Pairs.{inversion-path}
@@ -26,15 +27,11 @@ use Rattle.framing.specs.SetRead.{tasks-offset}
 use Rattle.timetables.specs.Judged.{tasks-of, EntriesStand}
 use Rattle.timetables.specs.Counted.{task-inversions}
 use Rattle.timetables.specs.Instants.{least-of, some-by}
-use Rattle.timetables.proofs.Releases.{any-default, good-releases, releases-length, release-in-slot, release-stored}
+use Rattle.timetables.proofs.Releases.{good-releases, releases-length, release-in-slot, release-stored}
 use Rattle.timetables.proofs.Releases.{releases-taken, release-follows, release-in-cycle}
 use Rattle.timetables.proofs.StartRules.{breaks-of-task}
 use Rattle.timetables.proofs.OwnInversions.{other-task, regular, inverted}
 use Rattle.timetables.proofs.Instants.{instant-is, lower-inverts, none-lower-runs, some-left, is-waiting, idle-before, no-idle-before}
-
--- the tasks of a set in memory are its first n slots
-pub task-in-slot : (slots : List Task) (n i : ℕ) (d : Task) → n ≤ length slots → i < n → task (take n slots) i ≡ getD slots i d
-task-in-slot slots n i d room l = getD-take n slots i _ l ∙ any-default slots i _ d (omega arith)
 
 -- before entry j, at its byte offset: what has started, and the releases of the next jobs
 pub record AtEntry (bytes : List ℕ) (s : TaskSet) (h : ℕ) (releases next : List ℕ) (at j : ℕ) : Type 0 where

@@ -8,7 +8,7 @@ use lib.ListN.{length, getD}
 use borrow.Author.Needs.{needs}
 use Rattle.rules.specs.Tasks.{hyperperiod}
 use Rattle.rules.specs.Dispatcher.{zero-task}
-use Rattle.sets.proofs.Slots.{slots-counted}
+use Rattle.rules.proofs.Arrays.{slots-counted}
 use Rattle.timetables.specs.Judged.{tasks-of}
 use Rattle.timetables.proofs.Turns.{at-first, GoodStart, releases-many}
 use Rattle.deriving.proofs.ValidTurns.{entry-inside, entry-task, entry-good, few-started}

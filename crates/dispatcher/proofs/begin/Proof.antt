@@ -7,7 +7,7 @@ use Rattle.rules.specs.declared.Dispatcher.{Dispatcher as State}
 use Rattle.rules.specs.Refusals.{refusal}
 use Rattle.rules.specs.Tasks.{task, jobs, GoodSet}
 use Rattle.rules.specs.Dispatcher.{refused}
-use Rattle.sets.proofs.Slots.{slots-counted}
+use Rattle.rules.proofs.Arrays.{slots-counted}
 use Rattle.records.specs.Fits.{SetFits}
 use Rattle.records.proofs.SetKept.{in-time, fits}
 use Rattle.replay.specs.Releases.{tasks-of}

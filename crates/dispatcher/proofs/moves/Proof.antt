@@ -3,10 +3,10 @@ use mathlib.Core.Path.{_≡_, refl}
 use Prim.Native.Nat.{_<_}
 use native.Mathlib.Omega.{arith}
 use lib.ListN.{getD}
+use Rattle.rules.proofs.Arrays.{slot-element}
 use Rattle.sets.proofs.Instants.{steps-fit}
 use Rattle.decision.specs.declared.Found.{Found}
 use Rattle.decision.specs.declared.NextStart.the-variants.{Starts}
-use Rattle.records.proofs.Arrays.{slot-element}
 use Rattle.dispatcher.proofs.Starting.{stuck-next, found-task, start-moves}
 use Rattle.dispatcher.proofs.NextTurns.{stops, moves}
 use borrow.Author.Needs.{needs}

@@ -6,10 +6,10 @@ use lib.ListN.{length, getD}
 use Rattle.rules.specs.declared.Dispatcher.{Dispatcher as State}
 use Rattle.rules.specs.Refusals.{refusal}
 use Rattle.rules.specs.Dispatcher.{refused}
+use Rattle.rules.proofs.Arrays.{slot-element}
 use Rattle.sets.proofs.Instants.{steps-fit}
 use Rattle.decision.specs.declared.Found.{Found}
 use Rattle.decision.specs.declared.NextStart.the-variants.{Starts}
-use Rattle.records.proofs.Arrays.{slot-element}
 use Rattle.dispatcher.proofs.Starting.{stuck-next, found-task, start-turn}
 use borrow.Author.Needs.{needs}
 use Rattle.dispatcher.proofs.start_next.Statement.{statement}

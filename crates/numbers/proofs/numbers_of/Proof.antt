@@ -4,7 +4,7 @@ use mathlib.Core.Path.{_∙_, ap}
 use lib.ListN.{replicate, length-replicate}
 use borrow.Author.Needs.{needs}
 use Rattle.rules.specs.Dispatcher.{Shaped}
-use Rattle.numbers.proofs.FilledSlots.{slots-counted}
+use Rattle.rules.proofs.Arrays.{slots-counted}
 use Rattle.numbers.specs.Numbers.{state-from}
 use Rattle.numbers.proofs.StateNumbers.{state-of-numbers}
 use Rattle.numbers.proofs.StoredNumbers.{all-stored}

@@ -8,7 +8,7 @@ use lib.ListN.{length, take, getD}
 use lib.Seq.{sets, length-sets, take-all}
 use Rattle.rules.specs.declared.Task.{Task}
 use Rattle.rules.specs.Dispatcher.{task-numbers, zero-task}
-use Rattle.numbers.proofs.FilledSlots.{slots-counted}
+use Rattle.rules.proofs.Arrays.{slots-counted}
 use Rattle.numbers.proofs.StoredNumbers.{task-more}
 use Rattle.numbers.proofs.put_tasks.Statement.{statement}
 use Rattle.numbers.proofs.put_tasks.Tie as tie

@@ -3,9 +3,9 @@ use mathlib.Core.Path.{_≡_}
 use native.Mathlib.Omega.{arith}
 use lib.ListN.{length}
 use borrow.Author.Needs.{needs}
-use Rattle.sets.proofs.Slots.{slots-counted}
 use Rattle.fields.specs.Number.{Bytes}
 use Rattle.fields.proofs.Laws.{bytes-by-index}
+use Rattle.rules.proofs.Arrays.{slots-counted}
 use Rattle.rebuilding.proofs.Putting.{all-in-time, can-replay, all-put}
 use Rattle.rebuilding.proofs.put_entries.Statement.{statement}
 use Rattle.rebuilding.proofs.put_entries.Tie as tie

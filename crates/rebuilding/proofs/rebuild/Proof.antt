@@ -6,7 +6,7 @@ use native.Mathlib.Omega.{arith}
 use lib.ListN.{length}
 use borrow.Author.Needs.{needs}
 use Rattle.rules.specs.Tasks.{limits}
-use Rattle.sets.proofs.Slots.{slots-counted}
+use Rattle.rules.proofs.Arrays.{slots-counted}
 use Rattle.tables.specs.declared.Tables.{Tables}
 use Rattle.tables.specs.Judged.{Good}
 use Rattle.rebuilding.specs.Rebuilt.{TimetableBehind}

@@ -4,7 +4,7 @@ use mathlib.Core.Logic.{⊎-elim}
 use Prim.Native.Nat.{_-_}
 use native.Mathlib.Omega.{arith}
 use borrow.Author.Needs.{needs}
-use Rattle.records.proofs.Arrays.{zeros-zero}
+use Rattle.rules.proofs.Arrays.{slot-zeros}
 use Rattle.records.proofs.OffsetsTold.{ToldBefore, told-none-yet, told-up-to, told-already, told-all, task-here}
 use Rattle.records.proofs.first_offsets.Statement.{statement}
 use Rattle.records.proofs.first_offsets.Tie as tie
@@ -27,7 +27,7 @@ add-at c = search needs
 loop-holds : tie.Need-loop-holds Inv-loop μ-loop
 loop-holds c =
     let a = c .before .before .args in
-    told-none-yet (a .image .now) (a .n) (a .idles) (a .inversions) _ _ (omega (arith, c .first-record .ensures)) refl (zeros-zero 16)
+    told-none-yet (a .image .now) (a .n) (a .idles) (a .inversions) _ _ (omega (arith, c .first-record .ensures)) refl (slot-zeros 16)
 
 inversion-at-requires : tie.Need-inversion-at-requires Inv-loop μ-loop
 inversion-at-requires c κs = search needs

@@ -6,7 +6,7 @@ use lib.ListN.{length}
 use borrow.Author.Needs.{needs}
 use Rattle.rules.specs.Tasks.{jobs as jobs-in}
 use Rattle.rules.specs.Dispatcher.{zeros}
-use Rattle.sets.proofs.Slots.{slots-counted}
+use Rattle.rules.proofs.Arrays.{slots-counted}
 use Rattle.records.proofs.Arrays.{filled-none}
 use Rattle.records.proofs.SetKept.{ValuesTo, value-more, values-all}
 use Rattle.records.proofs.jobs_of.Statement.{statement}

@@ -6,7 +6,7 @@ use lib.ListN.{length}
 use borrow.Author.Needs.{needs}
 use Rattle.rules.specs.Tasks.{task}
 use Rattle.rules.specs.Dispatcher.{zeros}
-use Rattle.sets.proofs.Slots.{slots-counted}
+use Rattle.rules.proofs.Arrays.{slots-counted}
 use Rattle.records.specs.Tables.{Filled}
 use Rattle.records.proofs.Arrays.{filled-none, filled-more}
 use Rattle.records.proofs.SetKept.{task-read, slack-kept}

@@ -5,7 +5,7 @@ use native.Mathlib.Omega.{arith}
 use borrow.Author.Count.{below-more}
 use borrow.Author.Needs.{needs}
 use Rattle.rules.specs.Priority.{slot}
-use Rattle.records.proofs.Arrays.{slot-element}
+use Rattle.rules.proofs.Arrays.{slot-element}
 use Rattle.replay.proofs.NextReleases.{one-before, each-past}
 use Rattle.replay.proofs.all_started.Statement.{statement}
 use Rattle.replay.proofs.all_started.Tie as tie

@@ -5,7 +5,7 @@ use lib.ListN.{length}
 use borrow.Author.Needs.{needs}
 use Rattle.fields.specs.Number.{Bytes}
 use Rattle.fields.proofs.Laws.{bytes-by-index}
-use Rattle.sets.proofs.Slots.{slots-counted}
+use Rattle.rules.proofs.Arrays.{slots-counted}
 use Rattle.replay.specs.Releases.{tasks-of}
 use Rattle.replay.proofs.Cycles.{CycleFilled, cycle-run, cycle-can}
 use Rattle.replay.proofs.cycle.Statement.{statement}

@@ -5,7 +5,7 @@ use native.Mathlib.Omega.{arith}
 use lib.ListN.{length}
 use borrow.Author.Needs.{needs}
 use Rattle.rules.specs.Dispatcher.{zero-task}
-use Rattle.sets.proofs.Slots.{slots-counted}
+use Rattle.rules.proofs.Arrays.{slots-counted}
 use Rattle.replay.proofs.NextReleases.{releases-so-far, release-fits, none-so-far, more-so-far, all-so-far}
 use Rattle.replay.proofs.releases_of.Statement.{statement}
 use Rattle.replay.proofs.releases_of.Tie as tie

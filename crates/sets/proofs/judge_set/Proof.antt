@@ -4,9 +4,9 @@ use mathlib.Core.List.{List}
 use Prim.Native.Nat.{ℕ}
 use lib.ListN.{length, replicate, length-replicate}
 use Rattle.rules.specs.Tasks.{judge-set}
+use Rattle.rules.proofs.Arrays.{slots-counted}
 use Rattle.numbers.specs.Numbers.{set-from}
 use Rattle.numbers.proofs.SetNumbers.{set-of-stored}
-use Rattle.sets.proofs.Slots.{slots-counted}
 use borrow.Author.Needs.{needs}
 use Rattle.sets.proofs.judge_set.Statement.{statement}
 use Rattle.sets.proofs.judge_set.Tie as tie

@@ -5,7 +5,7 @@ use lib.ListN.{length}
 use borrow.Author.Needs.{needs}
 use Rattle.fields.specs.Number.{Bytes}
 use Rattle.fields.proofs.Laws.{bytes-by-index}
-use Rattle.sets.proofs.Slots.{slots-counted}
+use Rattle.rules.proofs.Arrays.{slots-counted}
 use Rattle.tables.proofs.Replaying.{replay-at-late, replay-at-ends, replay-at-done}
 use Rattle.tables.proofs.replay_fault.Statement.{statement}
 use Rattle.tables.proofs.replay_fault.Tie as tie

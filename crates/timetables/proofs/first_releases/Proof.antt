@@ -5,7 +5,7 @@ use Prim.Native.Nat.{_-_}
 use native.Mathlib.Omega.{arith}
 use lib.ListN.{length}
 use borrow.Author.Needs.{needs}
-use Rattle.sets.proofs.Slots.{slots-counted}
+use Rattle.rules.proofs.Arrays.{slots-counted}
 use Rattle.timetables.specs.Walks.{next-releases}
 use Rattle.timetables.proofs.Releases.{releases-length, first-in-slot}
 use Rattle.timetables.proofs.Filled.{Filled, filled-none, filled-more, filled-all}

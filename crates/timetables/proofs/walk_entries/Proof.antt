@@ -10,7 +10,7 @@ use borrow.Author.Tests.{not-true, not-false}
 use borrow.Author.Needs.{needs}
 use Rattle.rules.specs.Marks.{SL}
 use Rattle.rules.specs.Dispatcher.{zero-task}
-use Rattle.sets.proofs.Slots.{slots-counted}
+use Rattle.rules.proofs.Arrays.{slots-counted}
 use Rattle.images.specs.Table.{stands-at}
 use Rattle.timetables.proofs.Turns.{GoodStart, slot-keeps, slot-short, releases-many}
 use Rattle.timetables.proofs.Walking.{Walking, walking-first, walking-inside, entry-inside, good-start, walking-next}

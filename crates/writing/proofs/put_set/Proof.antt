@@ -1,25 +1,21 @@
 -- `writing::put_set` meets its contract. The loop's invariant: TS and the tasks passed are put. Assumes nothing.
 use mathlib.Core.Path.{_≡_, refl, sym, _∙_, ap, ap₂}
-use mathlib.Core.List.{List, map}
+use mathlib.Core.List.{List}
 use Prim.Native.Nat.{ℕ, _-_, _≤_}
 use native.Mathlib.Omega.{arith}
 use native.Mathlib.Numerals.{add-one}
-use lib.ListN.{length, getD, take, length-map}
+use lib.ListN.{length, getD, take}
 use lib.Seq.{length-take-le}
 use borrow.Author.Needs.{needs}
-use Rattle.rules.specs.declared.Task.{Task}
 use Rattle.rules.specs.Marks.{TS, TK, size}
 use Rattle.rules.specs.Image.{record-of, of-task}
 use Rattle.rules.specs.Dispatcher.{zero-task}
+use Rattle.rules.proofs.Arrays.{slots-counted}
 use Rattle.writing.specs.Writing.{put-at, record-put, behind-tasks}
 use Rattle.writing.proofs.Puts.{put-none, put-length}
 use Rattle.writing.proofs.ImagePut.{tasks-bytes, task-put, set-put}
 use Rattle.writing.proofs.put_set.Statement.{statement}
 use Rattle.writing.proofs.put_set.Tie as tie
-
--- a set has as many slots as it has offsets of tasks, or other fields
-slots-counted : {B : Type 0} (fields : Task → B) (slots : List Task) (n : ℕ) → length (map fields slots) ≡ n → length slots ≡ n
-slots-counted fields slots n e = sym (length-map slots fields) ∙ e
 
 abbrev Inv-loop : tie.InvT-loop
 Inv-loop out₀ kind s n at₀ i₀ out at i =
