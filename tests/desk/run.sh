@@ -33,7 +33,7 @@ PATH=$built/bin:$PATH
 T=$built/T
 export PATH T
 
-HV_NATIVE=1 tests/listing/run.sh "$built/bin/list"
+tests/listing/run.sh "$built/bin/list"
 
 # Each case is a command behind '$ ', the lines that it prints, and its exit status behind '= '. The folder $T is printed as T.
 count=0

@@ -1,9 +1,10 @@
 #!/bin/sh
-# Runs the listing program, the repository's own or the one that is named, on the stored cases: the
-# image on its standard input, its standard output compared with the stored lines.
+# Runs the listing program, the repository's own or a command of this host that is named, on the stored
+# cases: the image on its standard input, its standard output compared with the stored lines.
 set -eu
 
 folder=$(cd "$(dirname "$0")" && pwd)
+named=${1:-}
 program=${1:-$folder/../../target/bin/listing}
 test -f "$program" || { echo "no program at $program" >&2; exit 1; }
 archive=${HV_ARCHIVE:-$folder/../../target/staticlib/libhervantyu.a}
@@ -16,7 +17,11 @@ differ=0
 
 # Runs the program on standard input and prints its lines, each with | behind it.
 listed() {
-    run "$program" | tr '\n' '|'
+    if test -n "$named"; then
+        "$named"
+    else
+        run "$program"
+    fi | tr '\n' '|'
 }
 
 # Counts a case, and shows it where the program's lines are not the stored ones.
