@@ -5,8 +5,8 @@
 # by 16 bytes each time, and the other implementation is compiled with its branches off those
 # boundaries. Each program is run twice, and the least time of each side counts: what else runs on the
 # machine only adds to a time. HV_ARCHIVE names another archive than the repository's own.
-# With `instructions` as its argument it counts those executed instead, a number that does not depend
-# on the machine: an emulator (Debian's qemu-user) runs the program and a plugin counts.
+# With `instructions` as its argument it counts those executed instead, into which neither the processor
+# nor what else it does comes: an emulator (Debian's qemu-user) runs the program and a plugin counts.
 set -eu
 
 tests=$(cd "$(dirname "$0")" && pwd)

@@ -18,9 +18,6 @@ use Rattle.rules.proofs.OffsetReplay.{replay-done}
 use Rattle.rules.proofs.AcceptedTables.{no-faults, replayed}
 use Rattle.records.specs.Fits.{InTime, SlackOf}
 use Rattle.records.proofs.SetKept.{in-time, fits}
-use Rattle.decision.specs.declared.Found.{Found}
-use Rattle.decision.specs.declared.NextStart.{NextStart}
-use Rattle.decision.specs.declared.NextStart.the-variants.{Starts, Stuck}
 use Rattle.replay.specs.Releases.{tasks-of}
 use Rattle.replay.specs.Runs.{entries-from, CanReplay, cycle-of}
 use Rattle.replay.proofs.Cycles.{by-answer, cycle-stand, cycle-stuck, cycle-done}

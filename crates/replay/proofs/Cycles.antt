@@ -20,7 +20,7 @@ use Rattle.rules.specs.Refusals.{refuses, refusal}
 use Rattle.rules.specs.Tasks.{limits, task, release, all-jobs, hyperperiod, set-fault}
 use Rattle.rules.specs.Setting.{Tables}
 use Rattle.rules.specs.Priority.{slot, start-job, all-started, by-priority, setting}
-use Rattle.rules.specs.Irregularities.{runs as is-run}
+use Rattle.rules.specs.Irregularities.{runs}
 use Rattle.rules.specs.Judging.{judge-tables}
 use Rattle.rules.specs.Offsets.{last-offset, Source, lent, past-own, next-is, next-start}
 use Rattle.rules.specs.Dispatcher.{zero-task, zeros}
@@ -40,9 +40,9 @@ use Rattle.decision.specs.declared.NextStart.{NextStart as Answer}
 use Rattle.decision.specs.declared.NextStart.the-variants.{Starts, Stuck}
 use Rattle.decision.specs.Next.{inverts, next-case, next-of, IdlesRead, none-left, one-more, AllRead}
 use Rattle.replay.specs.Releases.{tasks-of}
-use Rattle.replay.specs.Runs.{wasted-after, Place, Ends, entry-of, start-first, answer-at, behind, runs, AllReadIn, CanRun, CanReplay, first-releases, times-of, periods-of, cycle-start, cycle-of}
+use Rattle.replay.specs.Runs.{wasted-after, Point, Ends, entry-of, start-first, answer-at, behind, ends-of, AllReadIn, CanRun, CanReplay, first-releases, times-of, periods-of, cycle-start, cycle-of}
 use Rattle.replay.proofs.Stores.{start-stores}
-use Rattle.replay.proofs.Running.{runs-stuck, runs-last, runs-more}
+use Rattle.replay.proofs.Running.{ends-stuck, ends-last, ends-more}
 use Rattle.replay.proofs.Walk.{WalkAt, WalkGoesOn, walk-begins, walk-cycle, walk-all, walk-left, walk-readable, walk-starts}
 
 -- where a run that found all starts of a cycle ended: next job numbers, free instant and tasks' offsets; replay of the tables stands there after
@@ -97,7 +97,7 @@ module _ {bytes : List ℕ} {ts : List Task} {X : Tables} {before : ℕ} (st : S
   found-wastes i t o q =
       by-eq (own-end i) (slot offsets i)
       (λ u. rw (wasted-stays wasted (slot offsets i) (own-end i) (inverts ts next t i) u) (start-without st good R W left i t o q u))
-      (λ u. by-bool (is-run (by-priority ts (hyperperiod ts) next t) i)
+      (λ u. by-bool (runs (by-priority ts (hyperperiod ts) next t) i)
       (λ b. rw (b, wasted-falls wasted (slot offsets i) (own-end i) u) (start-wastes st good R W left i t o q u b))
       (λ b. rw (b, wasted-kept wasted (slot offsets i) (own-end i)) (start-inverts st good R W left i t o q b)))
 
@@ -119,8 +119,8 @@ module _ {bytes : List ℕ} {ts : List Task} {X : Tables} {before : ℕ} (st : S
       (λ i t o q. let other : next-case ts bytes next offsets (next-is i t o) ≡ Stuck number = rw q at e in clash (cc))
       (λ m q. judged-late st good R left m q)
 
--- a place in a run after some starts: the walk stands there, with these records wasted
-record PlaceAt (bytes : List ℕ) (ts : List Task) (X : Tables) (h n : ℕ) (many slack : List ℕ) (σ : List Entry) (p : Place) : Type 0 where
+-- a point of a run after some starts: the walk stands there, with these records wasted
+record PointAt (bytes : List ℕ) (ts : List Task) (X : Tables) (h n : ℕ) (many slack : List ℕ) (σ : List Entry) (p : Point) : Type 0 where
   walk : WalkAt bytes ts X h n many slack σ (p .next) (p .releases) (p .free) (p .idle) (p .offsets)
   wastes : Wastes ts X σ (p .next) (p .wasted)
 
@@ -158,7 +158,7 @@ pub record CycleFilled (s : TaskSet) (h : ℕ) (times periods releases : List �
 -- the run that begins with them is the cycle's
 pub cycle-run : (bytes : List ℕ) (s : TaskSet) (h : ℕ) (first : OffsetsOf) (times periods releases : List ℕ) (all : ℕ) →
     CycleFilled s h times periods releases all →
-    runs (tasks-of s) bytes times periods (all - 1)
+    ends-of (tasks-of s) bytes times periods (all - 1)
     (record { next = zeros; releases = releases; offsets = first .inversions; free = 0; idle = first .idle; wasted = last-offset })
     ≡ cycle-of bytes s h first
 cycle-run bytes s h first times periods releases all filled =
@@ -200,23 +200,23 @@ module _ {bytes : List ℕ} {s : TaskSet} {h : ℕ} {many slack : List ℕ} {fir
       ∙ ap (λ (t : Task). t .offset) (sym (task-in-slot (s .tasks) (s .n) i zero-task (omega (arith, can .fits .few)) l))
       ∙ rw (zeros-same (suc i) i (omega arith), slot-empty i) (omega arith)
 
-  -- the next start from a place, the place behind it, and a run from there
-  abbrev answer : Place → Answer
+  -- the next start from a point, the point behind it, and a run from there
+  abbrev answer : Point → Answer
   answer p = answer-at ts bytes (times-of s) (periods-of s) p
 
-  abbrev on : Place → Found → Place
+  abbrev on : Point → Found → Point
   on p f = behind ts bytes (times-of s) (periods-of s) p f
 
-  abbrev run : ℕ → Place → Ends
-  run more p = runs ts bytes (times-of s) (periods-of s) more p
+  abbrev run : ℕ → Point → Ends
+  run more p = ends-of ts bytes (times-of s) (periods-of s) more p
 
-  -- a place after some starts
-  abbrev At : List Entry → Place → Type 0
-  At σ p = PlaceAt bytes ts X h (s .n) many slack σ p
+  -- a point after some starts
+  abbrev At : List Entry → Point → Type 0
+  At σ p = PointAt bytes ts X h (s .n) many slack σ p
 
   -- with all starts made, all jobs have started
-  place-done : {σ : List Entry} {p : Place} → At σ p → all-jobs h ts ≤ length σ → CycleDone bytes ts X σ (p .idle) (p .wasted)
-  place-done {p = p} a enough = record {
+  point-done : {σ : List Entry} {p : Point} → At σ p → all-jobs h ts ≤ length σ → CycleDone bytes ts X σ (p .idle) (p .wasted)
+  point-done {p = p} a enough = record {
     next = p .next;
     free = p .free;
     offsets = p .offsets;
@@ -225,23 +225,23 @@ module _ {bytes : List ℕ} {s : TaskSet} {h : ℕ} {many slack : List ℕ} {fir
     all = rw (walk-cycle cycle-stand (a .walk)) at (walk-all cycle-stand (a .walk) enough);
   }
 
-  module _ {σ : List Entry} {p : Place} (a : At σ p) where
+  module _ {σ : List Entry} {p : Point} (a : At σ p) where
     -- all offsets can be read
-    place-read : AllRead bytes ts (s .n) (p .offsets) (p .idle)
-    place-read = record { tasks-read = walk-readable cycle-stand (a .walk); idles-read = idles-come (a .walk .replays .idles-shown) }
+    point-read : AllRead bytes ts (s .n) (p .offsets) (p .idle)
+    point-read = record { tasks-read = walk-readable cycle-stand (a .walk); idles-read = idles-come (a .walk .replays .idles-shown) }
 
     module _ (few : length σ < all-jobs h ts) where
       -- a job is left
-      place-left : all-started (hyperperiod ts) ts (p .next) ≡ false
-      place-left = rw (walk-cycle cycle-stand (a .walk)) at (walk-left cycle-stand (a .walk) few)
+      point-left : all-started (hyperperiod ts) ts (p .next) ≡ false
+      point-left = rw (walk-cycle cycle-stand (a .walk)) at (walk-left cycle-stand (a .walk) few)
 
       -- the next start is stuck: 18 at the number of starts
-      place-stuck : (number : ℕ) → answer p ≡ Stuck number → judge-tables ts X ≡ refuses (refusal 18 (length σ))
-      place-stuck = late-here cycle-stand (can .good) (a .walk .replays) (a .wastes) place-left
+      point-stuck : (number : ℕ) → answer p ≡ Stuck number → judge-tables ts X ≡ refuses (refusal 18 (length σ))
+      point-stuck = late-here cycle-stand (can .good) (a .walk .replays) (a .wastes) point-left
 
-      -- the place behind the next start
-      place-on : (f : Found) → answer p ≡ Starts f → At (σ ++ (entry-of f ∷ [])) (on p f)
-      place-on f e =
+      -- the point behind the next start
+      point-on : (f : Found) → answer p ≡ Starts f → At (σ ++ (entry-of f ∷ [])) (on p f)
+      point-on f e =
           let i : ℕ = f .task in
           let w = a .walk in
           let g : WalkGoesOn bytes ts X h (s .n) many slack σ (p .next) (p .releases) (p .offsets) f =
@@ -250,43 +250,43 @@ module _ {bytes : List ℕ} {s : TaskSet} {h : ℕ} {many slack : List ℕ} {fir
           start-stores (p .next) i (omega (arith, g .a-task, w .fits .set .few, w .next-slots)) in
           record {
             walk = rw (time-in-slot i (g .a-task), period-in-slot i (g .a-task)) (g .goes-on);
-            wastes = rw (stored, ← slot-element (p .offsets) i) (wastes-on cycle-stand (can .good) (w .replays) (a .wastes) place-left f e);
+            wastes = rw (stored, ← slot-element (p .offsets) i) (wastes-on cycle-stand (can .good) (w .replays) (a .wastes) point-left f e);
           }
 
       -- what one start comes to, where one job is left
       ends-here : all-jobs h ts ≤ suc (length σ) → EndsSo bytes ts X σ (run zero p)
       ends-here last =
           by-answer (answer p)
-          (λ f q. rw (runs-last ts bytes (times-of s) (periods-of s) p f q)
-          (done-so f (place-done (place-on f q) (omega (arith, one-entry σ f)))))
-          (λ m q. rw (runs-stuck ts bytes (times-of s) (periods-of s) p zero m q) (stuck-so (p .wasted) m (place-stuck m q)))
+          (λ f q. rw (ends-last ts bytes (times-of s) (periods-of s) p f q)
+          (done-so f (point-done (point-on f q) (omega (arith, one-entry σ f)))))
+          (λ m q. rw (ends-stuck ts bytes (times-of s) (periods-of s) p zero m q) (stuck-so (p .wasted) m (point-stuck m q)))
 
       -- and what more come to
       ends-on : (more : ℕ) → ((f : Found) → answer p ≡ Starts f → EndsSo bytes ts X (σ ++ (entry-of f ∷ [])) (run more (on p f))) →
           EndsSo bytes ts X σ (run (suc more) p)
       ends-on more later =
           by-answer (answer p)
-          (λ f q. rw (runs-more ts bytes (times-of s) (periods-of s) p more f q) (more-so f (run more (on p f)) (later f q)))
-          (λ m q. rw (runs-stuck ts bytes (times-of s) (periods-of s) p (suc more) m q) (stuck-so (p .wasted) m (place-stuck m q)))
+          (λ f q. rw (ends-more ts bytes (times-of s) (periods-of s) p more f q) (more-so f (run more (on p f)) (later f q)))
+          (λ m q. rw (ends-stuck ts bytes (times-of s) (periods-of s) p (suc more) m q) (stuck-so (p .wasted) m (point-stuck m q)))
 
   -- with as many starts to come as jobs are left, all offsets can be read at each of these decisions
-  run-read : (more : ℕ) (σ : List Entry) (p : Place) → At σ p → suc more + length σ ≡ all-jobs h ts →
+  run-read : (more : ℕ) (σ : List Entry) (p : Point) → At σ p → suc more + length σ ≡ all-jobs h ts →
       AllReadIn ts bytes (times-of s) (periods-of s) (s .n) more p
   unfolding AllReadIn
-  run-read zero σ p a left = place-read a
+  run-read zero σ p a left = point-read a
   run-read (suc more) σ p a left = (
-    place-read a,
-    λ f e. run-read more (σ ++ (entry-of f ∷ [])) (on p f) (place-on a (omega arith) f e) (omega (arith, one-entry σ f)),
+    point-read a,
+    λ f e. run-read more (σ ++ (entry-of f ∷ [])) (on p f) (point-on a (omega arith) f e) (omega (arith, one-entry σ f)),
   )
 
   -- what the run comes to
-  run-ends : (more : ℕ) (σ : List Entry) (p : Place) → At σ p → suc more + length σ ≡ all-jobs h ts → EndsSo bytes ts X σ (run more p)
+  run-ends : (more : ℕ) (σ : List Entry) (p : Point) → At σ p → suc more + length σ ≡ all-jobs h ts → EndsSo bytes ts X σ (run more p)
   run-ends zero σ p a left = ends-here a (omega arith) (omega arith)
   run-ends (suc more) σ p a left =
       ends-on a (omega arith) more
-      (λ f q. run-ends more (σ ++ (entry-of f ∷ [])) (on p f) (place-on a (omega arith) f q) (omega (arith, one-entry σ f)))
+      (λ f q. run-ends more (σ ++ (entry-of f ∷ [])) (on p f) (point-on a (omega arith) f q) (omega (arith, one-entry σ f)))
 
-  -- the place where the cycle begins
+  -- the point at which the cycle begins
   cycle-begins : At [] (cycle-start s first)
   cycle-begins =
       record {

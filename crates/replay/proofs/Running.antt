@@ -3,7 +3,7 @@
 use mathlib.Core.Path.{_≡_, refl, sym, _∙_}
 use mathlib.Core.Bool.{Bool, true, false}
 use mathlib.Core.List.{List, [], _∷_}
-use Prim.Native.Nat.{ℕ, zero, suc, _+_, _*_, _-_, _≤_, _<_}
+use Prim.Native.Nat.{ℕ, zero, suc, _+_, _-_, _≤_, _<_}
 use native.Mathlib.Omega.{arith}
 use native.Mathlib.Nat.{add-zero, zero-add, div-le-self, le-of-dvd, suc-mul}
 use lib.ListN.{length, getD, set, length-set}
@@ -33,7 +33,7 @@ use Rattle.decision.proofs.Fitting.{is-hyperperiod}
 use Rattle.writing.specs.Writing.{put-at, record-put}
 use Rattle.writing.proofs.Puts.{put-length}
 use Rattle.replay.specs.declared.Run.{Run}
-use Rattle.replay.specs.Runs.{Place, Ends, entry-of, start-first, answer-at, wasted-by, behind, runs, AllReadIn, run-told, entries-from, CanRun}
+use Rattle.replay.specs.Runs.{Point, Ends, entry-of, start-first, answer-at, wasted-by, behind, ends-of, AllReadIn, run-told, entries-from, CanRun}
 use Rattle.replay.proofs.Stores.{start-stores}
 
 module _ (bytes : List ℕ) {ts : List Task} (good : GoodSet ts (hyperperiod ts)) (x : List ℕ) (offsets : List ℕ) (i t w : ℕ) where
@@ -138,32 +138,32 @@ start-fits {ts} {h} {n} {many} {slack} {next} {releases} {free} {i} {t} fits nex
     }
 
 -- all offsets can be read at the first of decisions
-first-read : (ts : List Task) (bytes times periods : List ℕ) (n more : ℕ) (p : Place) → AllReadIn ts bytes times periods n more p →
+first-read : (ts : List Task) (bytes times periods : List ℕ) (n more : ℕ) (p : Point) → AllReadIn ts bytes times periods n more p →
     AllRead bytes ts n (p .offsets) (p .idle)
 unfolding AllReadIn
 first-read ts bytes times periods n zero p all = all
 first-read ts bytes times periods n (suc more) p all = all .0
 
--- a run from a place, by what is answered there
-module _ (ts : List Task) (bytes times periods : List ℕ) (p : Place) where
+-- a run from a point, by what is answered there
+module _ (ts : List Task) (bytes times periods : List ℕ) (p : Point) where
   -- no start: it has come to its end
-  pub runs-stuck : (more number : ℕ) → answer-at ts bytes times periods p ≡ Stuck number →
-      runs ts bytes times periods more p ≡ record { entries = []; wasted = p .wasted; last = Stuck number }
-  unfolding runs
-  runs-stuck zero number e = rw (e, runs)
-  runs-stuck (suc more) number e = rw (e, runs)
+  pub ends-stuck : (more number : ℕ) → answer-at ts bytes times periods p ≡ Stuck number →
+      ends-of ts bytes times periods more p ≡ record { entries = []; wasted = p .wasted; last = Stuck number }
+  unfolding ends-of
+  ends-stuck zero number e = rw (e, ends-of)
+  ends-stuck (suc more) number e = rw (e, ends-of)
 
   -- a start, and none behind it is wanted
-  pub runs-last : (f : Found) → answer-at ts bytes times periods p ≡ Starts f →
-      runs ts bytes times periods 0 p ≡ record { entries = entry-of f ∷ []; wasted = wasted-by ts bytes times periods p f; last = Starts f }
-  unfolding runs
-  runs-last f e = rw (e, runs)
+  pub ends-last : (f : Found) → answer-at ts bytes times periods p ≡ Starts f →
+      ends-of ts bytes times periods 0 p ≡ record { entries = entry-of f ∷ []; wasted = wasted-by p f; last = Starts f }
+  unfolding ends-of
+  ends-last f e = rw (e, ends-of)
 
   -- a start before others
-  pub runs-more : (more : ℕ) (f : Found) → answer-at ts bytes times periods p ≡ Starts f →
-      runs ts bytes times periods (suc more) p ≡ start-first f (runs ts bytes times periods more (behind ts bytes times periods p f))
-  unfolding runs
-  runs-more more f e = rw (e, runs)
+  pub ends-more : (more : ℕ) (f : Found) → answer-at ts bytes times periods p ≡ Starts f →
+      ends-of ts bytes times periods (suc more) p ≡ start-first f (ends-of ts bytes times periods more (behind ts bytes times periods p f))
+  unfolding ends-of
+  ends-more more f e = rw (e, ends-of)
 
 -- behind the output's end nothing is put
 none-put : (τ : List Entry) (out : List ℕ) (place : ℕ) → length out ≤ place → entries-from out place τ ≡ out
@@ -193,10 +193,10 @@ module _ {out : List ℕ} {place : ℕ} {out′ : List ℕ} {place′ : ℕ} (f 
 abbrev pub told-behind : ℕ → Ends → Run
 told-behind made e = record { made = made + length (e .entries); wasted = e .wasted; last = e .last }
 
--- where a run stands that began at a place, with an output and a place in it, when so many starts are made: the arrays fit, the offsets can be read in what
+-- where a run stands that began at a point, with an output and a place in it, when so many starts are made: the arrays fit, the offsets can be read in what
 -- is left, and what is left comes to what the whole run comes to
-pub record RunAt (ts : List Task) (bytes : List ℕ) (judged : Bool) (h n : ℕ) (many slack times periods : List ℕ) (wanted : ℕ) (first : Place)
-    (old : List ℕ) (at : ℕ) (p : Place) (out : List ℕ) (place made : ℕ) : Type 0 where
+pub record RunAt (ts : List Task) (bytes : List ℕ) (judged : Bool) (h n : ℕ) (many slack times periods : List ℕ) (wanted : ℕ) (first : Point)
+    (old : List ℕ) (at : ℕ) (p : Point) (out : List ℕ) (place made : ℕ) : Type 0 where
   pub fits : Fits ts h n many slack (p .next) (p .releases)
   pub by-end : p .free ≤ h
   pub next-slots : 1 < wanted → length (p .next) ≡ limits .tasks
@@ -204,14 +204,14 @@ pub record RunAt (ts : List Task) (bytes : List ℕ) (judged : Bool) (h n : ℕ)
   pub left : made ≤ wanted - 1
   pub read : judged ≡ true → AllReadIn ts bytes times periods n (wanted - 1 - made) p
   pub same-length : length out ≡ length old
-  pub told : told-behind made (runs ts bytes times periods (wanted - 1 - made) p) ≡ run-told (runs ts bytes times periods (wanted - 1) first)
-  pub put : entries-from out place (runs ts bytes times periods (wanted - 1 - made) p .entries)
-      ≡ entries-from old at (runs ts bytes times periods (wanted - 1) first .entries)
+  pub told : told-behind made (ends-of ts bytes times periods (wanted - 1 - made) p) ≡ run-told (ends-of ts bytes times periods (wanted - 1) first)
+  pub put : entries-from out place (ends-of ts bytes times periods (wanted - 1 - made) p .entries)
+      ≡ entries-from old at (ends-of ts bytes times periods (wanted - 1) first .entries)
 
 module _ {ts : List Task} {bytes : List ℕ} {judged : Bool} {h n : ℕ} {many slack times periods next releases : List ℕ} {free idle : ℕ} {offsets : List ℕ}
     {wanted : ℕ} (can : CanRun ts bytes judged h n many slack times periods next releases free idle offsets wanted) (old : List ℕ) (at : ℕ) where
   -- where the run begins
-  abbrev begins-at : Place
+  abbrev begins-at : Point
   begins-at = record { next = next; releases = releases; offsets = offsets; free = free; idle = idle; wasted = last-offset }
 
   -- at its beginning
@@ -232,10 +232,10 @@ module _ {ts : List Task} {bytes : List ℕ} {judged : Bool} {h n : ℕ} {many s
 
   -- what the run is to tell and to leave in the output
   abbrev Ended : Run → List ℕ → Type 0
-  Ended told out = (told ≡ run-told (runs ts bytes times periods (wanted - 1) begins-at))
-      × (out ≡ entries-from old at (runs ts bytes times periods (wanted - 1) begins-at .entries))
+  Ended told out = (told ≡ run-told (ends-of ts bytes times periods (wanted - 1) begins-at))
+      × (out ≡ entries-from old at (ends-of ts bytes times periods (wanted - 1) begins-at .entries))
 
-  module _ {p : Place} {out : List ℕ} {place made : ℕ}
+  module _ {p : Point} {out : List ℕ} {place made : ℕ}
       (r : RunAt ts bytes judged h n many slack times periods wanted begins-at old at p out place made) where
     -- the offsets can be read
     pub run-reads : judged ≡ true → AllRead bytes ts n (p .offsets) (p .idle)
@@ -246,10 +246,10 @@ module _ {ts : List Task} {bytes : List ℕ} {judged : Bool} {h n : ℕ} {many s
         Ended (record { made = made; wasted = p .wasted; last = Stuck number }) out
     unfolding entries-from
     run-stuck number e =
-        let is = runs-stuck ts bytes times periods p (wanted - 1 - made) number e in
+        let is = ends-stuck ts bytes times periods p (wanted - 1 - made) number e in
         let told : told-behind made (record { entries = []; wasted = p .wasted; last = Stuck number })
-        ≡ run-told (runs ts bytes times periods (wanted - 1) begins-at) = rw is at (r .told) in
-        let put : entries-from out place [] ≡ entries-from old at (runs ts bytes times periods (wanted - 1) begins-at .entries) = rw is at (r .put) in
+        ≡ run-told (ends-of ts bytes times periods (wanted - 1) begins-at) = rw is at (r .told) in
+        let put : entries-from out place [] ≡ entries-from old at (ends-of ts bytes times periods (wanted - 1) begins-at .entries) = rw is at (r .put) in
         (rw (add-zero made) at told, put)
 
     module _ (f : Found) (e : answer-at ts bytes times periods p ≡ Starts f) where
@@ -263,11 +263,11 @@ module _ {ts : List Task} {bytes : List ℕ} {judged : Bool} {h n : ℕ} {many s
 
       -- it was the last that was wanted
       pub run-ends : {out′ : List ℕ} {place′ : ℕ} → PutsOn out place out′ place′ f → wanted ≤ made + 1 →
-          Ended (record { made = made + 1; wasted = wasted-by ts bytes times periods p f; last = Starts f }) out′
+          Ended (record { made = made + 1; wasted = wasted-by p f; last = Starts f }) out′
       unfolding entries-from
       run-ends puts enough =
           let none : wanted - 1 - made ≡ 0 = omega (arith, r .left) in
-          let is = runs-last ts bytes times periods p f e in
+          let is = ends-last ts bytes times periods p f e in
           (rw (none, is) at (r .told), sym (puts .on []) ∙ (rw (none, is) at (r .put)))
 
       -- more are wanted: the numbers and arrays
@@ -284,10 +284,10 @@ module _ {ts : List Task} {bytes : List ℕ} {judged : Bool} {h n : ℕ} {many s
       run-on puts more =
           let on = run-start more in
           let rest : ℕ = wanted - 1 - (made + 1) in
-          let others : Ends = runs ts bytes times periods rest (behind ts bytes times periods p f) in
+          let others : Ends = ends-of ts bytes times periods rest (behind ts bytes times periods p f) in
           let left : wanted - 1 - made ≡ suc rest = omega arith in
-          let is = runs-more ts bytes times periods p rest f e in
-          let told : told-behind made (start-first f others) ≡ run-told (runs ts bytes times periods (wanted - 1) begins-at) = rw (left, is) at (r .told) in
+          let is = ends-more ts bytes times periods p rest f e in
+          let told : told-behind made (start-first f others) ≡ run-told (ends-of ts bytes times periods (wanted - 1) begins-at) = rw (left, is) at (r .told) in
           let counted : made + suc (length (others .entries)) ≡ made + 1 + length (others .entries) = omega arith in
           record {
             fits = on .fits;
@@ -315,7 +315,7 @@ one-may-run bytes times periods idle offsets fits by-end = record {
 }
 
 -- its last answer is the next start
-pub one-answer : (ts : List Task) (bytes times periods : List ℕ) (p : Place) → runs ts bytes times periods 0 p .last ≡ answer-at ts bytes times periods p
-unfolding runs
+pub one-answer : (ts : List Task) (bytes times periods : List ℕ) (p : Point) → ends-of ts bytes times periods 0 p .last ≡ answer-at ts bytes times periods p
+unfolding ends-of
 one-answer ts bytes times periods p =
-    by-next (next-start (setting ts) (lent bytes ts) (p .next) (p .free) (p .offsets) (p .idle)) (λ i t w q. rw (q, runs)) (λ m q. rw (q, runs))
+    by-next (next-start (setting ts) (lent bytes ts) (p .next) (p .free) (p .offsets) (p .idle)) (λ i t w q. rw (q, ends-of)) (λ m q. rw (q, ends-of))

@@ -34,9 +34,9 @@ use Rattle.replay.specs.Releases.{tasks-of}
 unfoldable pub wasted-after : ℕ → ℕ → ℕ → Bool → ℕ
 wasted-after wasted offset behind inverts = pick (eqb behind offset) wasted (pick inverts wasted (pick (ltb offset wasted) offset wasted))
 
--- where a run stands: next job numbers, the release of each task's next job, the tasks' offsets, the instant from which the processor is free, the ID
+-- the point that a run has come to: next job numbers, the release of each task's next job, the tasks' offsets, the instant from which the processor is free, the ID
 -- offset, and the least offset of a PV record that had no effect
-pub record Place : Type 0 where
+pub record Point : Type 0 where
   pub next : List ℕ
   pub releases : List ℕ
   pub offsets : List ℕ
@@ -58,18 +58,18 @@ entry-of f = record { task = f .task; start = f .start }
 abbrev pub start-first : Found → Ends → Ends
 start-first f e = record { entries = entry-of f ∷ e .entries; wasted = e .wasted; last = e .last }
 
+-- the least offset of a PV record that had no effect, behind a start
+abbrev pub wasted-by : Point → Found → ℕ
+wasted-by p f = wasted-after (p .wasted) (getD (p .offsets) (f .task) 0) (f .inversion) (f .inverts)
+
 -- a run of a set, an image, and each task's time and period
 module _ (ts : List Task) (bytes times periods : List ℕ) where
-  -- the next start from a place
-  abbrev pub answer-at : Place → Answer
+  -- the next start from a point
+  abbrev pub answer-at : Point → Answer
   answer-at p = next-of ts bytes (p .next) (p .free) (p .offsets) (p .idle)
 
-  -- the least offset of a record without effect behind a start
-  abbrev pub wasted-by : Place → Found → ℕ
-  wasted-by p f = wasted-after (p .wasted) (getD (p .offsets) (f .task) 0) (f .inversion) (f .inverts)
-
-  -- the place behind a start
-  abbrev pub behind : Place → Found → Place
+  -- the point behind a start
+  abbrev pub behind : Point → Found → Point
   behind p f = record {
     next = set (p .next) (f .task) (getD (p .next) (f .task) 0 + 1);
     releases = set (p .releases) (f .task) (getD (p .releases) (f .task) 0 + getD periods (f .task) 0);
@@ -79,28 +79,28 @@ module _ (ts : List Task) (bytes times periods : List ℕ) where
     wasted = wasted-by p f;
   }
 
-  -- a start, and so many behind it, up to the first that is not found
-  unfoldable pub runs : ℕ → Place → Ends
-  runs zero p =
+  -- what a run comes to: a start, and so many behind it, up to the first that is not found
+  unfoldable pub ends-of : ℕ → Point → Ends
+  ends-of zero p =
       elim (answer-at p) [
         | Starts f ↦ record { entries = entry-of f ∷ []; wasted = wasted-by p f; last = Starts f }
         | Stuck number ↦ record { entries = []; wasted = p .wasted; last = Stuck number }
       ]
-  runs (suc more) p =
+  ends-of (suc more) p =
       elim (answer-at p) [
-        | Starts f ↦ start-first f (runs more (behind p f))
+        | Starts f ↦ start-first f (ends-of more (behind p f))
         | Stuck number ↦ record { entries = []; wasted = p .wasted; last = Stuck number }
       ]
 
   -- all offsets can be read at each of these decisions
-  unfoldable pub AllReadIn : ℕ → ℕ → Place → Type 0
+  unfoldable pub AllReadIn : ℕ → ℕ → Point → Type 0
   AllReadIn n zero p = AllRead bytes ts n (p .offsets) (p .idle)
   AllReadIn n (suc more) p = AllRead bytes ts n (p .offsets) (p .idle) × ((f : Found) → answer-at p ≡ Starts f → AllReadIn n more (behind p f))
 
 -- so many starts, and one at least, from next job numbers, releases, a free instant, the ID offset and the tasks' offsets
 abbrev pub run-from : List Task → List ℕ → List ℕ → List ℕ → List ℕ → List ℕ → ℕ → ℕ → List ℕ → ℕ → Ends
 run-from ts bytes times periods next releases free idle offsets wanted =
-    runs ts bytes times periods (wanted - 1)
+    ends-of ts bytes times periods (wanted - 1)
     (record { next = next; releases = releases; offsets = offsets; free = free; idle = idle; wasted = last-offset })
 
 -- how the code tells it
@@ -144,8 +144,8 @@ times-of s = map (λ (t : Task). t .time) (s .tasks)
 abbrev pub periods-of : TaskSet → List ℕ
 periods-of s = map (λ (t : Task). t .period) (s .tasks)
 
--- the place where a cycle begins
-abbrev pub cycle-start : TaskSet → OffsetsOf → Place
+-- the point at which a cycle begins
+abbrev pub cycle-start : TaskSet → OffsetsOf → Point
 cycle-start s first = record {
   next = zeros;
   releases = first-releases s;
@@ -157,4 +157,4 @@ cycle-start s first = record {
 
 -- the run through the cycle
 abbrev pub cycle-of : List ℕ → TaskSet → ℕ → OffsetsOf → Ends
-cycle-of bytes s h first = runs (tasks-of s) bytes (times-of s) (periods-of s) (all-jobs h (tasks-of s) - 1) (cycle-start s first)
+cycle-of bytes s h first = ends-of (tasks-of s) bytes (times-of s) (periods-of s) (all-jobs h (tasks-of s) - 1) (cycle-start s first)

@@ -6,7 +6,7 @@ use borrow.Author.Needs.{needs}
 use borrow.Author.Tests.{not-true, not-false}
 use Rattle.rules.specs.declared.Task.{Task}
 use Rattle.decision.specs.Fits.{Fits}
-use Rattle.decision.specs.Next.{Idling, IdledTo}
+use Rattle.decision.specs.Next.{Idling}
 use Rattle.decision.proofs.Deciding.{tasks-told-unread}
 use Rattle.decision.proofs.next_start.Statement.{statement}
 use Rattle.decision.proofs.next_start.Tie as tie

@@ -1,6 +1,5 @@
 -- `rebuilding::put_entries` meets its contract: the cycle's starts are the entries, put one behind the other behind the tasks. Assumes nothing.
 use mathlib.Core.Path.{_≡_}
-use native.Mathlib.Omega.{arith}
 use lib.ListN.{length}
 use borrow.Author.Needs.{needs}
 use Rattle.fields.specs.Number.{Bytes}

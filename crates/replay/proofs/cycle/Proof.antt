@@ -1,6 +1,5 @@
 -- `replay::cycle` meets its contract. Assumes nothing.
 use mathlib.Core.Path.{_≡_}
-use native.Mathlib.Omega.{arith}
 use lib.ListN.{length}
 use borrow.Author.Needs.{needs}
 use Rattle.fields.specs.Number.{Bytes}

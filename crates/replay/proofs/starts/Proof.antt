@@ -11,7 +11,7 @@ use Rattle.rules.specs.declared.Task.{Task}
 use Rattle.rules.specs.Offsets.{last-offset}
 use Rattle.decision.specs.declared.Found.{Found}
 use Rattle.decision.specs.declared.NextStart.the-variants.{Starts}
-use Rattle.replay.specs.Runs.{Place, answer-at, CanRun}
+use Rattle.replay.specs.Runs.{Point, answer-at, CanRun}
 use Rattle.replay.proofs.Running.{PutsOn, puts-entry, puts-none, RunAt, StartFits, run-begins, run-reads, run-stuck, run-task, run-ends, run-start, run-on}
 use Rattle.replay.proofs.starts.Statement.{statement}
 use Rattle.replay.proofs.starts.Tie as tie
@@ -38,8 +38,8 @@ turn c = c .before .before .before .before .before .before
 abbrev found : tie.After-f Inv-starts μ-starts → Found
 found c = c .f .given .0 .0
 
--- the place where the run stands
-abbrev stands : tie.At-starts Inv-starts μ-starts → Place
+-- the point that the run has come to
+abbrev stands : tie.At-starts Inv-starts μ-starts → Point
 stands c =
     let at = c .starts in
     record { next = at .counts; releases = at .releases; offsets = at .positions; free = at .from; idle = at .position; wasted = at .wasted }
@@ -51,7 +51,7 @@ May c ts =
     CanRun ts (a .image .now) (a .judged) (a .h) (a .n) (a .jobs .now) (a .slack .now) (a .times .now) (a .periods .now) (a .next .now) (a .release .now)
     (a .free) (a .idle) (a .offsets .now) (a .wanted)
 
--- the start is the next from that place, of every such set
+-- the start is the next from that point, of every such set
 answered : (c : tie.After-f Inv-starts μ-starts) (ts : List Task) → May (begin (turn c)) ts →
     let a = begin (turn c) .args in
     answer-at ts (a .image .now) (a .times .now) (a .periods .now) (stands (turn c)) ≡ Starts (found c)

@@ -1,6 +1,5 @@
 -- `tables::replay_fault` meets its contract: by where replay of the cycle ends. Assumes nothing.
 use mathlib.Core.Path.{_≡_}
-use native.Mathlib.Omega.{arith}
 use lib.ListN.{length}
 use borrow.Author.Needs.{needs}
 use Rattle.fields.specs.Number.{Bytes}
