@@ -1,9 +1,8 @@
 //! Refusals of framing in words: 1 to 5 and 10.
 
 use crate::archive::Kind;
-use crate::explain::{at, by, explained, otherwise, Explanation};
-use crate::messages::many;
 use crate::records::{Body, Fault, Image};
+use crate::wording::{at, by, explained, many, otherwise, Explanation};
 
 const MOST_TASKS: u64 = 16;
 

@@ -1,7 +1,7 @@
 //! Refusals of task sets in words: 6 to 9.
 
-use crate::explain::{at, by, explained, Broken, Explanation};
 use crate::records::{Image, Task};
+use crate::wording::{at, by, explained, Broken, Explanation};
 
 const LONGEST_HYPERPERIOD: u64 = 65_535;
 const MOST_JOBS: u64 = 4_096;

@@ -1,10 +1,9 @@
 //! Refusals of tables in words: 17 to 19.
 
 use crate::about_timetables::lateness;
-use crate::explain::{at, by, explained, otherwise, record_at, Broken, Explanation};
-use crate::messages::{many, named};
 use crate::records::{Body, Image, Job, Set};
 use crate::replay::{replay, Replay};
+use crate::wording::{at, by, explained, many, named, otherwise, record_at, Broken, Explanation};
 
 pub fn table_record(image: &Image, place: usize) -> Option<Explanation> {
     let set = Set::of(image)?;

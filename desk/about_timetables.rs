@@ -1,8 +1,7 @@
 //! Refusals of timetables in words: 11 to 16.
 
-use crate::explain::{at, by, explained, Broken, Explanation};
-use crate::messages::{many, named, ticks};
 use crate::records::{Body, Image, Job, Set};
+use crate::wording::{at, by, explained, many, named, ticks, Broken, Explanation};
 
 pub fn entry(image: &Image, place: usize, number: u32) -> Option<Explanation> {
     let set = Set::of(image)?;

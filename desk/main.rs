@@ -15,6 +15,7 @@ mod records;
 mod replay;
 mod show;
 mod why;
+mod wording;
 
 use archive::{Kind, Refusal};
 use explain::LONGEST_LISTED;

@@ -2,7 +2,8 @@
 
 use crate::archive::{derive, Kind, Refusal};
 use crate::explain::explain;
-use crate::records::{decode, Job, Set};
+use crate::records::{decode, Set};
+use crate::wording::{many, ticks};
 
 /// The kind that an image is asked as, and whether the file or the user named it.
 #[derive(Clone, Copy)]
@@ -73,22 +74,4 @@ pub fn explanation(bytes: &[u8], asked: Asked, refusal: Refusal) -> String {
         );
     }
     lines.join("\n") + "\n"
-}
-
-// ---- Words ----
-
-pub fn named(job: Job) -> String {
-    format!("task {}'s job {}", job.task, job.job)
-}
-
-pub fn ticks(count: u64) -> String {
-    many(count, "tick")
-}
-
-/// A count with its noun.
-pub fn many(count: u64, noun: &str) -> String {
-    match count {
-        1 => format!("1 {noun}"),
-        _ => format!("{count} {noun}s"),
-    }
 }

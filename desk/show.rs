@@ -1,8 +1,8 @@
 //! The hex dump of an image, a line a record: its index, its place, its bytes by fields and their meaning.
 
 use crate::archive::{Kind, Refusal};
-use crate::messages::many;
 use crate::records::{decode, Body, Fault, Image, Record, Rest, Set};
+use crate::wording::many;
 
 /// As wide as the longest record's hex, that of a TK.
 const HEX: usize = 41;

@@ -1,9 +1,8 @@
 //! Two images: which records differ, field by field. Records are lined up by the longest list of records
 //! that both have in this order; what lies between is changed, removed or added. And which starts move.
 
-use crate::explain::{record_at, rest_text};
-use crate::messages::{many, ticks};
 use crate::records::{Body, Image, Record};
+use crate::wording::{many, record_at, rest_text, ticks};
 use std::collections::BTreeMap;
 
 /// What became of a record.

@@ -4,9 +4,12 @@
  * on stores no place, it would be 0). On a refusal every other number and every byte that was lent stays as it was, but for a dispatcher's record, which is
  * then what hv_begin and hv_go_on say below.
  *
- * No pointer may be null, also where a length is 0. No two regions that are lent to one call may overlap: an image cannot be turned into its other kind in
- * place. Numbers are aligned as C aligns them, images may begin at any byte. No function keeps anything between calls: calls may run at the same time where
- * none writes what another one is lent, and an image, which is only read, may be lent to several.
+ * What the caller sees to, and no call tests: no pointer is null, also where a length is 0; numbers are aligned as C aligns them (images may begin at any
+ * byte); a length is that of the memory behind its pointer; no two regions that are lent to one call overlap, so an image cannot be turned into its other
+ * kind in place; and nothing else changes what was lent while the call runs. Nothing is promised to a caller that does not keep to this.
+ *
+ * No function keeps anything between calls: calls may run at the same time where none writes what another one is lent, and an image, which is only read, may
+ * be lent to several.
  *
  * docs/FORMAT.md has the bytes of an image, docs/REFUSALS.md each number with its causes and an image that gives it, docs/INTEGRATION.md the main loop of a
  * drive and the theorem behind each promise.
@@ -100,11 +103,13 @@ uint32_t hv_begin(struct hv_dispatcher *HV_RESTRICT d, const uint8_t *HV_RESTRIC
  *   22  end is after the running job's start + C; stopped
  *   24  all jobs of cycle 4,294,967,295 have started; unchanged
  *   25  the bytes are impossible: no whole ID, PV or EN at the ID offset, no whole PV or EN at a task's, one of these records outside its own range, or a
- *       job that would start too late for its deadline; stopped (a record is whole where it ends inside the image and at byte 4,294,967,295 at the latest)
+ *       job that would start too late for its deadline; stopped (a record is whole where it ends inside the image and the offset after it is at most
+ *       4,294,967,295)
  *
- * Guarantee, from hv_begin on, that every call is lent the accepted image with not a byte changed, and *d as the call before left it (it may lie elsewhere),
- * and that no call on a record is interrupted by another call on it. Then the starts are, in every cycle, those of the timetable that hv_rebuild gives, in
- * its order and each at its time, and 25 never comes. With ends from each start to its start + C nothing is refused before cycle 4,294,967,295 is over.
+ * Guarantee, from hv_begin on, that every call is lent the accepted image with not a byte changed, and *d as the call before left it (both may lie
+ * elsewhere), that each end lies from the start that was told to that start + C, and that no call on a record is interrupted by another call on it. Then the
+ * starts are, in every cycle, those of the timetable that hv_rebuild gives, in its order and each at its time, and nothing is refused before cycle
+ * 4,294,967,295 is over, and then with 24: so 25 never comes.
  * Whatever else is lent, any bytes and any numbers in *d, the call answers as above; a change is found (25) only where it makes bytes or state impossible. */
 uint32_t hv_go_on(struct hv_dispatcher *HV_RESTRICT d, const uint8_t *HV_RESTRICT image, size_t len, uint64_t end, uint64_t start[HV_LENT(4)]);
 

@@ -1,5 +1,5 @@
-# Sourced by the scripts that build programs with the archive and run them: compile_c, compile_rust
-# and run. The archive is for x86-64 Linux; on another processor a cross compiler builds and an
+# Sourced by the scripts that build programs with the archive, run them or look into it: compile_c,
+# compile_rust, run and dump. The archive is for x86-64 Linux; on another processor a cross compiler builds and an
 # emulator runs. With HV_NATIVE=1 the archive or the program that is tested is for this host.
 
 target=x86_64-unknown-linux-gnu
@@ -40,6 +40,7 @@ if test "$(uname -m)" = x86_64 || test -n "${HV_NATIVE:-}"; then
     compile_c() { gcc "$@"; }
     compile_rust() { rustc "$@"; }
     run() { "$@"; }
+    dump() { objdump "$@"; }
 else
     cross_tools || { install_cross_tools && cross_tools; } ||
         { echo "needed on this processor, as Debian's packages: $packages" >&2; exit 1; }
@@ -50,4 +51,5 @@ else
             -C target-feature=+crt-static "$@"
     }
     run() { qemu-x86_64 "$@"; }
+    dump() { x86_64-linux-gnu-objdump "$@"; }
 fi

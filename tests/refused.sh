@@ -75,7 +75,7 @@ symbols() {
 # The archive has the header's functions. It needs no more than what a compiler itself asks of a bare
 # machine, and it has no writable data: nothing is kept between calls.
 declared=$(sed -n 's/^uint32_t \(hv_[a-z_]*\)(.*/\1/p' "$tests/../include/hervantyu.h" | sort)
-test "$(symbols T)" = "$declared" || { echo "not the header's functions:" "$(symbols T)" >&2; exit 1; }
+test -n "$declared" && test "$(symbols T)" = "$declared" || { echo "not the header's functions:" "$(symbols T)" >&2; exit 1; }
 if symbols U | grep -v -x -e memcmp -e memcpy -e memmove -e memset; then
     echo "the archive needs these functions, and the manual does not name them" >&2
     exit 1

@@ -1,7 +1,8 @@
 #!/bin/sh
-# Runs the archive against the stored cases, from C, and against the independent implementation over
-# fixed cases, random cases and every image of some small sets. HV_ARCHIVE names another archive than
-# the repository's own.
+# Runs the archive against the stored cases, beside the implementation written for speed, from C, and
+# against the independent implementation over fixed cases, random cases and every image of some small
+# sets. The last line says whether the cases of 4 GiB were run. HV_ARCHIVE names another archive than the
+# repository's own.
 set -eu
 
 tests=$(cd "$(dirname "$0")" && pwd)
@@ -18,6 +19,9 @@ build() {
 
 build answers
 cat "$tests"/cases/*.txt | run "$built/answers" --compare
+
+build fast_answers
+cat "$tests"/cases/*.txt | run "$built/fast_answers"
 
 for program in desk drive; do
     compile_c -std=c11 -Wall -Wextra -Werror -O2 -I "$tests/../include" -o "$built/$program" "$tests/c/$program.c" "$archive"

@@ -1,4 +1,4 @@
-//! The sample images, built from document 01's numbers: `samples FOLDER` compares the files in the folder
+//! The sample images, built from the numbers of document 01 and of document 000: `samples FOLDER` compares the files in the folder
 //! with them, `samples --write FOLDER` writes those that are not there as they should be.
 
 #[allow(dead_code)]
@@ -17,6 +17,24 @@ type Tasks = [[u64; 4]];
 
 /// O, C, T and D of the set to work by hand.
 const BY_HAND: &Tasks = &[[0, 1, 5, 5], [0, 2, 10, 10], [0, 6, 20, 20]];
+
+/// The set of document 000's figures 1 and 5, whose tasks have C, T and D alone, and the schedule of its figure 1 (samples/README.md says how
+/// the starts follow from the words of the paper).
+const FIGURE_1: &Tasks = &[[0, 3, 10, 10], [0, 6, 12, 12], [0, 8, 60, 60]];
+const FIGURE_1_STARTS: [(usize, u64); 12] = [
+    (0, 0),
+    (1, 3),
+    (0, 10),
+    (1, 13),
+    (2, 19),
+    (0, 27),
+    (1, 30),
+    (0, 36),
+    (1, 39),
+    (0, 45),
+    (1, 48),
+    (0, 54),
+];
 
 /// 200, 100, 50, 25, 16, 8 and 1 jobs in a cycle of 2,000 ticks.
 const DRIVE: &Tasks = &[
@@ -128,6 +146,14 @@ fn samples() -> Vec<(&'static str, Vec<u8>)> {
         ("p11.tables.image", tables(&p11[..2], &[], &[])),
         ("p11.third.tables.image", tables(p11, &[], &[])),
         ("p12.image", Vec::new()),
+        (
+            "figure1.timetable.image",
+            timetable(FIGURE_1, &FIGURE_1_STARTS),
+        ),
+        (
+            "figure1.tables.image",
+            tables(FIGURE_1, &[(9, 1)], &[(1, 2, 6)]),
+        ),
         ("drive.timetable.image", timetable(DRIVE, &drive)),
         ("drive.tables.image", drive_tables(&drive)),
     ]

@@ -40,7 +40,8 @@ names() {
         }
 
         # Reads a file once; whether it is there. Of antt the first word of each line is kept, behind the
-        # words that begin a definition: a name counts where it is defined, not where it is used.
+        # words that begin a definition: a name counts where it is defined, not where it is used. Of an
+        # edit the names of its slips are kept.
         function known(file,    line, status) {
             if (!(file in text)) {
                 text[file] = ""
@@ -48,6 +49,11 @@ names() {
                     if (file ~ /\.antt$/) {
                         sub(/^ *((pub|abbrev|unfoldable|record|data) +)*/, "", line)
                         sub(/ .*/, "", line)
+                    }
+                    if (file ~ /\.edit$/) {
+                        if (line !~ /^# [a-z0-9_]+, /) continue
+                        sub(/^# /, "", line)
+                        sub(/,.*/, "", line)
                     }
                     text[file] = text[file] line "\n"
                 }
@@ -128,7 +134,7 @@ names() {
         }
 
         {
-            if (split($0, cell, " [|] ") != 3 && $0 !~ /\| \|$/) fail("not three columns")
+            if (split($0, cell, " [|] ") != 3 && $0 !~ /\| \|$/ || $0 ~ /\| \| ./) fail("not three columns")
             check_cell(cell[2])
             check_cell(cell[3])
             check_decisions($0)
@@ -138,7 +144,7 @@ names() {
         END {
             if (listed != stored) fail(stored " cases are stored, " listed " are listed")
             print names " names, " listed " cases"
-            exit failed || names == 0
+            exit failed || names == 0 || listed == 0
         }' docs/TRACE.md
 }
 

@@ -29,8 +29,15 @@ pub fn archive_answer(case: &str) -> Result<String, String> {
             turn_answer(room, image, |room, image| rebuild(&case, room, image))
         }
         ["begin", image] => bytes_from(image).map(|image| step_text(&begin(&case, &image))),
-        ["go", image, state, end] => go_answer(case, image, state, end),
-        ["run", steps, image] => run_answer(case, steps, image),
+        ["go", image, state, end] => go_answer(image, state, end, |image, state, end| {
+            go_on(&case, image, state, end)
+        }),
+        ["run", steps, image] => run_answer(
+            steps,
+            image,
+            |image| begin(&case, image),
+            |image, state, end| go_on(&case, image, state, end),
+        ),
         _ if OPERATIONS.contains(&operation(case)) => None,
         _ => {
             return Err(format!(
@@ -56,14 +63,19 @@ fn set_answer(case: &str, n: &str, tasks: &[&str]) -> Option<String> {
     })
 }
 
-fn check_answer(image: &str, check: impl FnOnce(&[u8]) -> Result<(), Refusal>) -> Option<String> {
+/// The answer of a function that checks an image.
+pub fn check_answer(
+    image: &str,
+    check: impl FnOnce(&[u8]) -> Result<(), Refusal>,
+) -> Option<String> {
     Some(match check(&bytes_from(image)?) {
         Ok(()) => "ok".to_string(),
         Err(refusal) => refusal_text(refusal),
     })
 }
 
-fn turn_answer(
+/// The answer of a function that turns an image into an output of so many bytes.
+pub fn turn_answer(
     room: &str,
     image: &str,
     turn: impl FnOnce(usize, &[u8]) -> Result<Vec<u8>, Refusal>,
@@ -74,17 +86,28 @@ fn turn_answer(
     })
 }
 
-fn go_answer(case: &str, image: &str, state: &str, end: &str) -> Option<String> {
+/// The answer of a function that goes on.
+pub fn go_answer(
+    image: &str,
+    state: &str,
+    end: &str,
+    go_on: impl Fn(&[u8], &State, u64) -> Step,
+) -> Option<String> {
     let state: State = numbers_from(state)?.try_into().ok()?;
-    let step = go_on(&case, &bytes_from(image)?, &state, end.parse().ok()?);
+    let step = go_on(&bytes_from(image)?, &state, end.parse().ok()?);
     Some(step_text(&step))
 }
 
 /// The starts of a beginning and of going on after it, each job reporting start + C; the first
 /// refusal ends the run.
-fn run_answer(case: &str, steps: &str, image: &str) -> Option<String> {
+pub fn run_answer(
+    steps: &str,
+    image: &str,
+    begin: impl Fn(&[u8]) -> Step,
+    go_on: impl Fn(&[u8], &State, u64) -> Step,
+) -> Option<String> {
     let image = bytes_from(image)?;
-    let mut step = begin(&case, &image);
+    let mut step = begin(&image);
     let mut told = vec![answer_text(&step.1)];
     for _ in 1..steps.parse::<u64>().ok()? {
         let (state, Ok(start)) = step else {
@@ -92,14 +115,14 @@ fn run_answer(case: &str, steps: &str, image: &str) -> Option<String> {
         };
         let [task, .., time] = start;
         let declared = state[2 + 4 * (task as usize % SLOTS)];
-        step = go_on(&case, &image, &state, time + u64::from(declared));
+        step = go_on(&image, &state, time + u64::from(declared));
         told.push(answer_text(&step.1));
     }
     Some(told.join("|"))
 }
 
 /// A dispatcher's answer with the state after it; a start is named as such.
-fn step_text((state, answer): &Step) -> String {
+pub fn step_text((state, answer): &Step) -> String {
     let named = if answer.is_ok() { "start " } else { "" };
     let numbers: Vec<String> = state.iter().map(u32::to_string).collect();
     format!("{named}{} state {}", answer_text(answer), numbers.join(","))
@@ -133,7 +156,7 @@ fn text_of(bytes: &[u8]) -> String {
     bytes.iter().map(|byte| format!("{byte:02x}")).collect()
 }
 
-fn bytes_from(text: &str) -> Option<Vec<u8>> {
+pub fn bytes_from(text: &str) -> Option<Vec<u8>> {
     if text == "-" {
         return Some(Vec::new());
     }

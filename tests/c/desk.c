@@ -327,5 +327,5 @@ int main(void)
         table_images();
     }
     printf("%u checks, %u failed\n", checks, failed);
-    return failed > 0;
+    return failed > 0 || checks == 0;
 }

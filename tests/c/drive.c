@@ -254,5 +254,5 @@ int main(void)
         }
     }
     printf("%u checks, %u failed\n", checks, failed);
-    return failed > 0;
+    return failed > 0 || checks == 0;
 }

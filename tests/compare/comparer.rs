@@ -2,8 +2,9 @@
 //! random cases, and over every timetable and every table image of some small sets.
 //! `compare SEED CASES [MOST]` asks so many random cases and ends early after so many differences,
 //! 100 where nothing is said. A difference is a line `CASE => ANSWER` with the second opinion; the
-//! archive's own answer is told on standard error, as is the progress. Last comes how often each
-//! number was given and at how many places; it fails too where one never came.
+//! archive's own answer is told on standard error, as is the progress. Then comes how often each
+//! number was given and at how many places; it fails too where one never came, or a part of the
+//! cases was not asked. The last line is the count, with that of the cases of 4 GiB.
 
 #[path = "../archive.rs"]
 mod archive;
@@ -70,37 +71,49 @@ pub fn compare(arguments: &[String], second: Opinion) -> ExitCode {
     watch::begin();
     let mut asking = Asking::new(second, most, edges::ABOUT + count + every::ABOUT);
     let random = stream::Stream::new(seed).take(count as usize);
-    part(&mut asking, "fixed cases", |all| {
+    let fixed = part(&mut asking, "fixed cases", |all| {
         all.ask_each(edges::cases())
     });
-    part(&mut asking, "random cases", |all| all.ask_each(random));
-    part(&mut asking, "cases of small sets", every::compare_all);
-    part(&mut asking, "cases of 4 GiB", far::compare_all);
-    verdict(&asking)
+    let drawn = part(&mut asking, "random cases", |all| all.ask_each(random));
+    let small = part(&mut asking, "cases of small sets", every::compare_all);
+    let far = part(&mut asking, "cases of 4 GiB", far::compare_all);
+    let least = [
+        ("fixed cases", fixed, edges::ABOUT / 2),
+        ("random cases", drawn, count),
+        ("cases of small sets", small, every::ABOUT / 2),
+    ];
+    let few = least.iter().filter(|(_, asked, least)| asked < least);
+    let few = few.map(|(name, asked, least)| format!("{asked} {name}, and not {least} at least"));
+    verdict(&asking, few.collect(), far)
 }
 
-/// Asks one part of the cases and tells how many they were, unless the end has come.
-fn part(asking: &mut Asking, name: &str, ask: impl FnOnce(&mut Asking)) {
+/// Asks one part of the cases, unless the end has come, and tells how many they were.
+fn part(asking: &mut Asking, name: &str, ask: impl FnOnce(&mut Asking)) -> u64 {
     let before = asking.cases;
     if !asking.over() {
         ask(asking);
     }
+    let count = asking.cases - before;
     if !asking.over() {
-        println!("{} {name}", asking.cases - before);
+        println!("{count} {name}");
     }
+    count
 }
 
 /// What was asked and what differs, and on a whole run what never came.
-fn verdict(asking: &Asking) -> ExitCode {
-    let missing = if asking.over() {
-        Vec::new()
-    } else {
-        asking.came.print();
-        asking.came.missing()
-    };
+fn verdict(asking: &Asking, mut missing: Vec<String>, far: u64) -> ExitCode {
+    let count = format!("{} cases, {} differ", asking.cases, asking.differ);
+    if asking.over() {
+        println!("{count}");
+        return ExitCode::FAILURE;
+    }
+    asking.came.print();
+    missing.extend(asking.came.missing());
     for line in &missing {
         println!("{line}");
     }
-    println!("{} cases, {} differ", asking.cases, asking.differ);
-    ExitCode::from(u8::from(asking.differ > 0 || !missing.is_empty()))
+    let (last, enough) = far::report(far);
+    println!("{count}, {last}");
+    let passed = asking.differ == 0 && missing.is_empty() && enough;
+    ExitCode::from(u8::from(!passed))
 }

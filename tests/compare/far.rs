@@ -1,6 +1,7 @@
 //! Offsets at the very end of 32 bits: the one place where a record may stand whole in an image and
 //! still end behind byte 4,294,967,295, which only an image of more than 4 GiB shows. Its bytes are
-//! memory that is nearly all never touched. What is expected is written here by hand.
+//! memory that is nearly all never touched. What is expected is written here by hand. Only on a
+//! machine that has no such memory may these cases be left out, and then the report says so.
 
 use crate::archive::{hv_go_on, NUMBERS};
 use crate::asking::Asking;
@@ -19,13 +20,15 @@ const EN: &[u8] = b"EN\x00\x00\x00\x00";
 const IDLE: usize = 85;
 const OF_TASK_1: usize = 87;
 
+/// The cases that there are.
+pub const CASES: u64 = 10;
+
 /// Two tasks (0,1,10,10), of which task 0's job runs from 0: task 1's starts at 1.
 pub fn compare_all(asking: &mut Asking) {
     let layout = Layout::array::<u8>(LENGTH).expect("an address has 64 bits");
     // SAFETY: the layout is not empty.
     let image = unsafe { alloc_zeroed(layout) };
     if image.is_null() {
-        eprintln!("there is no room for an image of 4 GiB: its ten cases are left out");
         return;
     }
     for (record, number) in [
@@ -77,6 +80,32 @@ fn compare(asking: &mut Asking, image: *mut u8, record: &[u8], number: usize, en
     let case =
         format!("an image of {LENGTH} bytes, {mark} at {at} for number {number} of the state");
     asking.compare(&case, &format!("{expected:?}"), &format!("{told:?}"));
+}
+
+/// What the report's last line says, given how many of these cases were asked, and whether that
+/// will do.
+pub fn report(asked: u64) -> (String, bool) {
+    if asked == CASES {
+        return (format!("{CASES} of them of 4 GiB"), true);
+    }
+    let without = available().is_some_and(|bytes| bytes <= LENGTH as u64);
+    let why = if without {
+        "no memory is there for them"
+    } else {
+        "and there is memory for them"
+    };
+    let line = format!("NOT RUN: {} cases of 4 GiB, {why}", CASES - asked);
+    (line, without)
+}
+
+/// The bytes of memory that the machine still has to give; none where it does not say.
+fn available() -> Option<u64> {
+    let all = std::fs::read_to_string("/proc/meminfo").ok()?;
+    let line = all
+        .lines()
+        .find_map(|line| line.strip_prefix("MemAvailable:"))?;
+    let kilobytes = line.trim().strip_suffix("kB")?.trim().parse::<u64>().ok()?;
+    Some(kilobytes * 1_024)
 }
 
 fn state() -> [u32; NUMBERS] {

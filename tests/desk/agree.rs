@@ -30,6 +30,8 @@ mod replay;
 mod show;
 #[path = "../../desk/why.rs"]
 mod why;
+#[path = "../../desk/wording.rs"]
+mod wording;
 
 #[allow(dead_code)]
 #[path = "../independent/cases.rs"]
@@ -73,6 +75,7 @@ const NUMBERS: std::ops::RangeInclusive<u32> = 1..=19;
 /// How often each number was explained, and how often an image was put right after it.
 #[derive(Default)]
 struct Count {
+    samples: u64,
     accepted: u64,
     explained: BTreeMap<u32, u64>,
     mended: BTreeMap<u32, u64>,
@@ -102,6 +105,7 @@ fn changed_samples(folder: &str, chance: &mut Chance, count: &mut Count) {
         }
         let image = fs::read(&path).expect("a sample can be read");
         let kind = kind_of(&image).unwrap_or(Kind::Tables);
+        count.samples += 1;
         hold(kind, &image, count);
         pictures::hold(kind, &image, &mut count.pictures);
         let places: Vec<usize> = match image.len() {
@@ -208,11 +212,17 @@ fn refused_so(kind: Kind, image: &[u8], refusal: Refusal) -> bool {
 fn report(count: &Count) -> ExitCode {
     let explained: u64 = count.explained.values().sum();
     println!(
-        "{} accepted, {explained} refused and explained, {} pictures, {} pairs compared",
-        count.accepted, count.pictures, count.compared
+        "{} samples; {} accepted, {explained} refused and explained, {} pictures, {} pairs compared",
+        count.samples, count.accepted, count.pictures, count.compared
     );
     let times = |map: &BTreeMap<u32, u64>, number| map.get(&number).copied().unwrap_or(0);
-    let mut complete = count.accepted > 0 && count.pictures > 0 && count.compared > 0;
+    let parts = [
+        count.samples,
+        count.accepted,
+        count.pictures,
+        count.compared,
+    ];
+    let mut complete = parts.iter().all(|part| *part > 0);
     for number in NUMBERS {
         let (told, mended) = (
             times(&count.explained, number),
@@ -222,7 +232,7 @@ fn report(count: &Count) -> ExitCode {
         complete &= told > 0 && (mended > 0 || !MENDED.contains(&number));
     }
     if !complete {
-        println!("a number never came, or was never put right");
+        println!("there was no sample, or a number never came, or was never put right");
     }
     ExitCode::from(u8::from(!complete))
 }

@@ -3,10 +3,10 @@
 
 use crate::about_tables::useless;
 use crate::archive::{check, rebuild, Kind, Refusal};
-use crate::explain::{Broken, Explanation};
 use crate::independent::{frame, judge_set, Record, Task};
 use crate::records::{decode, Body, Image, Set};
 use crate::replay::replay;
+use crate::wording::{Broken, Explanation};
 use crate::{demand, refused_so};
 
 /// Where a field stands: behind its mark, so many bytes from the record's beginning, so many bytes wide.

@@ -17,6 +17,11 @@ build() {
     compile_rust --edition 2021 -O -D warnings -C link-arg="$archive" -o "$built/$1" "$2"
 }
 
+# The program's modules use each other without a ring.
+for file in desk/*.rs; do
+    grep -o 'crate::[a-z_]*' "$file" | sed "s|^crate::|$(basename "$file" .rs) |"
+done | tsort >/dev/null || { echo "modules of desk/ use each other in a ring" >&2; exit 1; }
+
 build samples tests/samples.rs
 run "$built/samples" samples
 
@@ -39,9 +44,11 @@ tests/listing/run.sh "$built/bin/list"
 count=0
 differ=0
 command=
+begun=0
 while IFS= read -r line; do
     case $line in
     '$ '*)
+        begun=$((begun + 1))
         command=${line#??}
         : >"$built/expected"
         ;;
@@ -67,14 +74,20 @@ while IFS= read -r line; do
         ;;
     esac
 done <"$folder/cases.txt"
+test "$begun" -gt 0 && test "$begun" = "$count" || { echo "$begun commands in cases.txt, $count with a status"; exit 1; }
 
-# Each sample has its line in the samples' README, with its length and its answer.
+# Each sample has its line in the samples' README, with its length and its answer, and no other has one.
+images=0
 for image in samples/*.image; do
-    count=$((count + 1))
+    test -f "$image" || { echo "there are no samples"; exit 1; }
+    images=$((images + 1))
     answer=$(hv check --plain "$image") || true
     line="| \`${image#samples/}\` | $(($(wc -c <"$image"))) | $answer | "
     grep -qF "$line" samples/README.md || { differ=$((differ + 1)); echo "samples/README.md has no line $line"; }
 done
+count=$((count + images))
+rows=$(grep -c '^| `.*\.image` |' samples/README.md)
+test "$rows" = "$images" || { differ=$((differ + 1)); echo "samples/README.md has $rows lines for $images images"; }
 
 # The script at the top builds and runs the program by itself.
 if test -z "${HV_ARCHIVE:-}"; then
@@ -83,4 +96,4 @@ if test -z "${HV_ARCHIVE:-}"; then
 fi
 
 echo "$count commands, $differ differ"
-test "$differ" = 0 && test "$count" -gt 0
+test "$differ" = 0

@@ -2,9 +2,9 @@
 
 use crate::archive::Refusal;
 use crate::demand;
-use crate::explain::Explanation;
 use crate::independent::{front, record_length, Front, Record};
 use crate::show::dump;
+use crate::wording::Explanation;
 
 /// Holds that the words name what stands at the refusal's place.
 pub fn hold(image: &[u8], refusal: Refusal, told: &Explanation) {

@@ -14,7 +14,7 @@ use Rattle.rules.specs.Setting.{instant}
 use Rattle.rules.specs.Priority.{setting, least-release}
 use Rattle.rules.specs.Decision.{idle-for, idle-at}
 use Rattle.rules.specs.Marks.{ID, size, body-length}
-use Rattle.rules.specs.Offsets.{Shown, unreadable, no-record, shows, Source, last-offset, lent, idle-now, past-idle, readable, tasks-readable, all-readable, next-start}
+use Rattle.rules.specs.Offsets.{Shown, unreadable, no-record, shows, Source, last-offset, lent, idle-now, past-idle, readable, tasks-readable, all-readable, standing, next-start}
 use Rattle.rules.proofs.Cases.{by-bool, both-in, clash, differ}
 use Rattle.rules.proofs.NextTurns.{shown-choice, lent-in-range, next-unreadable, next-idles}
 use Rattle.decision.specs.declared.IdleShown.{IdleShown}
@@ -46,13 +46,13 @@ module _ (ts : List Task) (bytes x : List ℕ) (f : ℕ) (offsets : List ℕ) (o
   tasks-unread e =
       let all : all-readable (setting ts) (lent bytes ts) offsets o ≡ false =
       by-bool (readable (lent bytes ts .idle-shown o)) (λ b. rw (b, e)) (λ b. rw b) in
-      ap (next-case ts bytes x offsets) (sym (next-unreadable bytes ts x f (instant (setting ts) x f) offsets o refl all))
+      ap (next-case ts bytes x offsets) (sym (next-unreadable bytes ts (standing x f offsets o) (instant (setting ts) x f) refl all))
 
   -- the ID offset cannot be read
   pub idle-unreadable : Unreadable ≡ idle-case (lent bytes ts .idle-shown o) → Stuck 25 ≡ next-of ts bytes x f offsets o
   idle-unreadable e =
       let all : all-readable (setting ts) (lent bytes ts) offsets o ≡ false = rw (idle-unread (lent bytes ts .idle-shown o) e) in
-      ap (next-case ts bytes x offsets) (sym (next-unreadable bytes ts x f (instant (setting ts) x f) offsets o refl all))
+      ap (next-case ts bytes x offsets) (sym (next-unreadable bytes ts (standing x f offsets o) (instant (setting ts) x f) refl all))
 
   module _ (h n : ℕ) (many slack releases : List ℕ) (fits : Fits ts h n many slack x releases)
       (read : tasks-readable (lent bytes ts) n offsets ≡ true) (by-end : f ≤ h) (t : ℕ) (is-instant : t ≡ max f (least-of n h releases)) where
@@ -99,16 +99,16 @@ module _ (ts : List Task) (bytes x : List ℕ) (f : ℕ) (offsets : List ℕ) (o
 
       -- it is used: the next start is looked for from its end
       pub idle-used : r .start ≡ t →
-          next-start (setting ts) (lent bytes ts) x f offsets o ≡ next-start (setting ts) (lent bytes ts) x (t + r .length) offsets (o + size ID)
+          next-start (setting ts) (lent bytes ts) (standing x f offsets o) ≡ next-start (setting ts) (lent bytes ts) (standing x (t + r .length) offsets (o + size ID))
       idle-used now =
           idle-some (lent bytes ts .idle-shown o) r shown
           (λ after e.
           let all : all-readable (setting ts) (lent bytes ts) offsets o ≡ true =
           both-in (readable (lent bytes ts .idle-shown o)) _ (rw e) (rw (fits .set .n-tasks) at read) in
-          let choice : shown-choice (setting ts) (lent bytes ts) x t offsets o ≡ idle-for (r .length) = rw (e, eq-eqb (r .start) t now, idle-at) in
+          let choice : shown-choice (setting ts) (lent bytes ts) (standing x f offsets o) t ≡ idle-for (r .length) = rw (e, eq-eqb (r .start) t now, idle-at) in
           let past : past-idle (lent bytes ts .idle-shown o) o ≡ o + size ID = rw e (idle-after ts bytes o r after e .0) in
-          next-idles bytes ts x f t offsets o instant-as (r .length) all choice
-          ∙ ap (next-start (setting ts) (lent bytes ts) x (t + r .length) offsets) past)
+          next-idles bytes ts (standing x f offsets o) t instant-as (r .length) all choice
+          ∙ ap (λ (w : ℕ). next-start (setting ts) (lent bytes ts) (standing x (t + r .length) offsets w)) past)
 
 -- a task's offset cannot be read, as the answer whether all can be tells
 pub tasks-told-unread : (bytes : List ℕ) {n : ℕ} {many slack : List ℕ} (offsets : List ℕ) {all-there : Bool} →
@@ -135,7 +135,7 @@ read-behind {after = after} {r = r} (one-more {after = w} {r = q} e rest) shown 
 pub record Decides (bytes : List ℕ) (judged : Bool) (n h : ℕ) (many slack : List ℕ) (first free idle from o : ℕ) : Type 0 where
   pub by-end : from ≤ h
   pub same : (ts : List Task) (x releases offsets : List ℕ) → Idling ts bytes h n many slack x releases offsets first →
-      next-start (setting ts) (lent bytes ts) x from offsets o ≡ next-start (setting ts) (lent bytes ts) x free offsets idle
+      next-start (setting ts) (lent bytes ts) (standing x from offsets o) ≡ next-start (setting ts) (lent bytes ts) (standing x free offsets idle)
   pub idles-read : judged ≡ true → (ts : List Task) × SetFits ts h n many slack × IdlesRead (lent bytes ts) o
 
 -- where they were judged, the ID offset can be read
@@ -196,7 +196,7 @@ module _ {bytes : List ℕ} {judged : Bool} {n h : ℕ} {many slack : List ℕ} 
 
       -- and it is used
       used-again : {len : ℕ} → len ≡ body-length ID →
-          next-start (setting ts) (lent bytes ts) x (t + r .length) offsets (o + (len + 2)) ≡ next-start (setting ts) (lent bytes ts) x free offsets idle
+          next-start (setting ts) (lent bytes ts) (standing x (t + r .length) offsets (o + (len + 2))) ≡ next-start (setting ts) (lent bytes ts) (standing x free offsets idle)
       used-again is-length =
           rw is-length
           (sym

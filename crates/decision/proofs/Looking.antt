@@ -21,9 +21,7 @@ use Rattle.rules.specs.Offsets.{Shown, unreadable, no-record, shows, last-offse
 use Rattle.rules.proofs.Cases.{by-bool, by-option, by-eq, by-le, both-true, clash, differ}
 use Rattle.rules.proofs.Arrays.{slot-element}
 use Rattle.rules.proofs.GoodSets.{good-rules}
-use Rattle.rules.proofs.Lowest.{lowest-from-some}
-use Rattle.rules.proofs.LateJobs.{lowest-from-below}
-use Rattle.rules.proofs.Inversions.{below-lowest, none-lowest}
+use Rattle.rules.proofs.Lowest.{lowest-from-some, lowest-from-below, below-lowest, none-lowest}
 use Rattle.decision.specs.Fits.{Fits}
 use Rattle.decision.specs.Shown.{no-delay, delay-number}
 use Rattle.decision.specs.Waiting.{mask-of, come-by, clear-bit}

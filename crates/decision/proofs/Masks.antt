@@ -13,9 +13,7 @@ use borrow.Author.Tests.{eq-eqb, ne-eqb}
 use Rattle.rules.specs.Timetable.{pick}
 use Rattle.rules.specs.Setting.{lowest-from, lowest}
 use Rattle.rules.proofs.Cases.{by-bool, by-option, by-eq, by-le, clash, differ}
-use Rattle.rules.proofs.Lowest.{lowest-from-some}
-use Rattle.rules.proofs.LateJobs.{lowest-from-below}
-use Rattle.rules.proofs.Inversions.{below-lowest}
+use Rattle.rules.proofs.Lowest.{lowest-from-some, lowest-from-below, below-lowest}
 use Rattle.decision.specs.Waiting.{bit, mask-from, mask-of, set-bit, clear-bit, task-number}
 
 -- a bit behind doubled ones is the parity

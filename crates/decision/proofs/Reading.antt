@@ -15,8 +15,9 @@ use Rattle.rules.specs.Judging.{idle-in-range, inversion-in-range}
 use Rattle.rules.specs.Marks.{Mark, TS, TK, SL, ID, PV, EN, size}
 use Rattle.rules.specs.Image.{to-idle, to-inversion}
 use Rattle.rules.specs.Offsets.{Shown, unreadable, no-record, shows, Source, record-at, shown-if, idle-by, inversion-by, lent, readable, tasks-readable}
-use Rattle.rules.proofs.Cases.{by-bool, by-option, by-eq, by-le, both-true}
+use Rattle.rules.proofs.Cases.{by-option, by-eq, by-le, both-true}
 use Rattle.rules.proofs.Arrays.{slot-element}
+use Rattle.rules.proofs.StuckStarts.{one-unreadable}
 use Rattle.decision.specs.declared.InversionShown.{InversionShown}
 use Rattle.decision.specs.declared.InversionShown.the-variants.{Unreadable}
 use Rattle.records.specs.Fits.{SetFits}
@@ -37,14 +38,6 @@ tasks-read-each S zero offsets e i l = absurd (omega arith)
 tasks-read-each S (suc m) offsets e zero l = both-true (readable (S .inversion-shown (head₀ offsets))) _ e .0
 tasks-read-each S (suc m) offsets e (suc i) l =
     tasks-read-each S m (tail₀ offsets) (both-true (readable (S .inversion-shown (head₀ offsets))) _ e .1) i (omega arith)
-
--- where one cannot, they cannot
-one-unreadable : (S : Source) (m : ℕ) (offsets : List ℕ) (i : ℕ) → i < m → readable (S .inversion-shown (slot offsets i)) ≡ false →
-    tasks-readable S m offsets ≡ false
-one-unreadable S zero offsets i l e = absurd (omega arith)
-one-unreadable S (suc m) offsets zero l e = rw e
-one-unreadable S (suc m) offsets (suc i) l e =
-    by-bool (readable (S .inversion-shown (head₀ offsets))) (λ b. rw b (one-unreadable S m (tail₀ offsets) i (omega arith) e)) (λ b. rw b)
 
 -- two sets that fit the same arrays
 module _ {ts us : List Task} {h k n : ℕ} {many slack : List ℕ} (fits : SetFits ts h n many slack) (other : SetFits us k n many slack) where

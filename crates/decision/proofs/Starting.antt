@@ -5,25 +5,26 @@ use mathlib.Core.List.{List}
 use mathlib.Core.Option.{Option}
 use Prim.Native.Nat.{ℕ, suc, _+_, _-_, _≤_, _<_}
 use native.Mathlib.Omega.{arith}
-use lib.Dec.{ltb}
+use lib.Dec.{leb}
 use lib.Count.{trailingZeros}
 use lib.ListN.{length, getD}
-use borrow.Author.Tests.{leb-true, lt-ltb, le-ltb, le-leb}
+use borrow.Author.Tests.{leb-true, le-ltb, le-leb, lt-leb}
 use Rattle.rules.specs.declared.Task.{Task}
 use Rattle.rules.specs.Tasks.{task, hyperperiod, KeepsItsRule}
 use Rattle.rules.specs.Setting.{lowest}
 use Rattle.rules.specs.Priority.{slot, late, waiting, entry-breaks, by-priority, setting}
 use Rattle.rules.specs.Decision.{Choice, start-task, recorded}
+use Rattle.rules.specs.DecisionRule.{Waiting}
 use Rattle.rules.specs.Irregularities.{runs}
 use Rattle.rules.specs.Marks.{PV, size}
-use Rattle.rules.specs.Offsets.{last-offset, lent, past-own, all-readable}
-use Rattle.rules.proofs.Cases.{by-bool, by-option, by-le, by-nat, both-in, clash, differ}
+use Rattle.rules.specs.Offsets.{last-offset, lent, past-own, standing, all-readable}
+use Rattle.rules.proofs.Cases.{by-bool, by-option, by-eq, by-le, by-nat, both-in, clash, differ}
 use Rattle.rules.proofs.PriorityLaws.{keeps-rules, breaks-none, ends-in-cycle, setting-laws}
 use Rattle.rules.proofs.Arrays.{slot-element}
 use Rattle.rules.proofs.GoodSets.{good-rules}
-use Rattle.rules.proofs.Lowest.{lowest-from-some}
-use Rattle.rules.proofs.LateJobs.{lowest-from-below, Waits, waits-keeps, ends-late}
-use Rattle.rules.proofs.Inversions.{below-lowest, none-lowest, lower-waits, not-run}
+use Rattle.rules.proofs.Lowest.{lowest-from-some, lowest-from-below, below-lowest, none-lowest}
+use Rattle.rules.proofs.LateJobs.{waits-keeps, ends-late}
+use Rattle.rules.proofs.Inversions.{lower-waits, not-run}
 use Rattle.rules.proofs.Starts.{lowest-from-same}
 use Rattle.rules.proofs.NextTurns.{shown-choice, idle-ends, next-starts, next-refused, by-one-turn}
 use Rattle.decision.specs.declared.NextStart.{NextStart as Answer}
@@ -31,7 +32,7 @@ use Rattle.decision.specs.declared.NextStart.the-variants.{Starts, Stuck
 use Rattle.decision.specs.declared.Chosen.{Chosen}
 use Rattle.decision.specs.Waiting.{mask-of, come-by, clear-bit, task-number}
 use Rattle.decision.specs.Next.{inverts, next-case, next-of, past-if, delays-in, choice-of, Choosing, IsChosen, StartsAt}
-use Rattle.decision.proofs.Masks.{other-than, other-kept, lowest-other, lowest-number}
+use Rattle.decision.proofs.Masks.{other-than, same-fails, other-kept, lowest-other, lowest-number}
 use Rattle.decision.proofs.Fitting.{is-hyperperiod, a-task, left-before, waits-as}
 use Rattle.decision.proofs.Looking.{recorded-come, past-if-own, own-room}
 
@@ -48,7 +49,7 @@ module _ {ts : List Task} {bytes x : List ℕ} {f h n : ℕ} {slack releases off
 
   -- what the rule book decides
   abbrev decided : Choice
-  decided = shown-choice (setting ts) (lent bytes ts) x t offsets o
+  decided = shown-choice (setting ts) (lent bytes ts) (standing x f offsets o) t
 
   -- the delay that each task's offset shows for its next job
   abbrev delay : ℕ → Option ℕ
@@ -68,13 +69,13 @@ module _ {ts : List Task} {bytes x : List ℕ} {f h n : ℕ} {slack releases off
 
   -- a task that is refused
   refused : (i : ℕ) → decided ≡ start-task i → setting ts .breaks-in-replay x t i t ≡ 18 → Stuck 18 ≡ answered
-  refused i d e = ap (next-case ts bytes x offsets) (sym (next-refused bytes ts x f t offsets o (s .is-instant) i 17 all-read d e))
+  refused i d e = ap (next-case ts bytes x offsets) (sym (next-refused bytes ts (standing x f offsets o) t (s .is-instant) i 17 all-read d e))
 
   -- at the end of the cycle nothing starts
   pub none-at-end : h ≤ t → Stuck 18 ≡ answered
   none-at-end past =
-      by-one-turn bytes ts x f t offsets o (s .is-instant) (λ a. differ (sym all-read ∙ a))
-      (λ l a d. absurd (omega (arith, same, idle-ends bytes ts x f t offsets o (s .is-instant) l d)))
+      by-one-turn bytes ts (standing x f offsets o) t (s .is-instant) (λ a. differ (sym all-read ∙ a))
+      (λ l a d. absurd (omega (arith, same, idle-ends bytes ts (standing x f offsets o) t (s .is-instant) l d)))
       (λ i a d e.
       let kept = keeps-rules ts H x t i t (setting-laws ts H keep .replay-refuses x t i t e) in
       absurd (omega (arith, same, keep i .takes-time, ends-in-cycle ts H keep x t i t kept)))
@@ -170,25 +171,29 @@ module _ {ts : List Task} {bytes x : List ℕ} {f h n : ℕ} {slack releases off
               ))))
 
           -- it waits
-          chosen-waits : slot releases i ≤ t → Waits ts H x t i
+          chosen-waits : slot releases i ≤ t → Waiting ts H x t i
           chosen-waits come = record {
             a-task = a-task (s .fits) l;
             left = rw same at (left-before (s .fits) i l (omega arith));
             released = omega (arith, s .fits .releases-there i l);
           }
 
-          -- the rule book runs another where a lower bit is left of the mask, and no other
-          lower-inverts : slot releases i ≤ t → ltb (trailingZeros 16 (clear-bit mask i)) i ≡ inverts ts x t i
+          -- the rule book runs another exactly where, with the task's own bit cleared, one is left that is not above it
+          lower-inverts : slot releases i ≤ t → leb (trailingZeros 16 (clear-bit mask i)) i ≡ inverts ts x t i
           lower-inverts come =
               rw (is-mask, lowest-other n i (come-by releases t) few (omega (arith, few)))
               (by-option (lowest n (other-than i (come-by releases t)))
-              (λ e. rw (e, le-ltb 16 i (omega (arith, few)))
+              (λ e. rw (e, lt-leb 16 i (omega (arith, few)))
               (is-run (λ j k w. differ (sym w ∙ none-lowest n 0 (other-than i (come-by releases t)) e j (omega arith) (omega arith)))))
-              (λ j e. by-le i j
-              (λ above. rw (e, le-ltb j i above)
-              (is-run (λ m k w. differ (sym w ∙ below-lowest n 0 (other-than i (come-by releases t)) j e m (omega arith) (omega arith)))))
-              (λ below.
-              rw (e, lt-ltb j i below, not-run ts H x t i (a-task (s .fits) l) j below (lower-waiting j below (lowest-from-some n 0 _ j e))))))
+              (λ j e.
+              let left : other-than i (come-by releases t) j ≡ true = lowest-from-some n 0 _ j e in
+              by-le j i
+              (λ at-most. by-eq j i (λ own. differ (sym (rw own at left) ∙ same-fails i (come-by releases t)))
+              (λ other.
+              let below : j < i = omega arith in
+              rw (e, le-leb j i at-most, not-run ts H x t i (a-task (s .fits) l) j below (lower-waiting j below left))))
+              (λ above. rw (e, lt-leb j i above)
+              (is-run (λ m k w. differ (sym w ∙ below-lowest n 0 (other-than i (come-by releases t)) j e m (omega arith) (omega arith)))))))
             where
               -- a lower task that has come waits
               lower-waiting : (j : ℕ) → j < i → other-than i (come-by releases t) j ≡ true → waiting ts H x t j ≡ true
@@ -215,7 +220,7 @@ module _ {ts : List Task} {bytes x : List ℕ} {f h n : ℕ} {slack releases off
           -- it starts
           pub chosen-starts : t - getD releases i 0 ≤ getD slack i 0 → {inversion lower : ℕ} →
               inversion ≡ past-if (c .own) (getD offsets i 0) → lower ≡ trailingZeros 16 (clear-bit mask i) →
-              Starts (record { task = i; start = t; idle = o; inversion = inversion; inverts = ltb lower i }) ≡ answered
+              Starts (record { task = i; start = t; idle = o; inversion = inversion; inverts = leb lower i }) ≡ answered
           chosen-starts in-time {inversion} {lower} is-inversion is-lower =
               by-waiting
               (λ come d.
@@ -232,7 +237,7 @@ module _ {ts : List Task} {bytes x : List ℕ} {f h n : ℕ} {slack releases off
               let past : inversion ≡ past-own (lent bytes ts .inversion-shown (slot offsets i)) i (slot x i) (slot offsets i) =
               is-inversion ∙ ap (past-if (c .own)) (sym (slot-element offsets i))
               ∙ past-if-own ts bytes keep i (slot x i) (slot offsets i) (c .own) (is-chosen .is-own l) in
-              let inverted : ltb lower i ≡ inverts ts x t i = rw is-lower (lower-inverts come) in
+              let inverted : leb lower i ≡ inverts ts x t i = rw is-lower (lower-inverts come) in
               rw (past, inverted)
               (ap (next-case ts bytes x offsets)
-              (sym (next-starts bytes ts x f t offsets o (s .is-instant) i all-read d (ap late (breaks-none ts H x t i t kept))))))
+              (sym (next-starts bytes ts (standing x f offsets o) t (s .is-instant) i all-read d (ap late (breaks-none ts H x t i t kept))))))

@@ -14,7 +14,7 @@ use Rattle.rules.specs.Priority.{slot, by-priority, setting}
 use Rattle.rules.specs.Decision.{recorded}
 use Rattle.rules.specs.Irregularities.{runs}
 use Rattle.rules.specs.Marks.{PV, size}
-use Rattle.rules.specs.Offsets.{no-record, shows, Source, NextStart, next-is, stuck, past-own, readable, tasks-readable, shown-delays, idle-now, lent, next-start}
+use Rattle.rules.specs.Offsets.{no-record, shows, Source, standing, NextStart, next-is, stuck, past-own, readable, tasks-readable, shown-delays, idle-now, lent, next-start}
 use Rattle.decision.specs.declared.NextStart.{NextStart as Answer}
 use Rattle.decision.specs.declared.NextStart.the-variants.{Starts, Stuck}
 use Rattle.decision.specs.Fits.{Fits}
@@ -45,7 +45,12 @@ next-case ts bytes x offsets (stuck number) = Stuck number
 
 -- the rule book's next start of a set, an image, next job numbers, the instant from which the processor is free, the tasks' offsets and the ID offset
 abbrev pub next-of : List Task → List ℕ → List ℕ → ℕ → List ℕ → ℕ → Answer
-next-of ts bytes x f offsets o = next-case ts bytes x offsets (next-start (setting ts) (lent bytes ts) x f offsets o)
+next-of ts bytes x f offsets o = next-case ts bytes x offsets (next-start (setting ts) (lent bytes ts) (standing x f offsets o))
+
+-- an answer that is the rule book's next start of every set that the arrays fit
+abbrev pub FindsNext : List ℕ → ℕ → ℕ → List ℕ → List ℕ → List ℕ → List ℕ → ℕ → ℕ → List ℕ → Answer → Type 0
+FindsNext bytes n h many slack x releases free idle offsets r =
+    (ts : List Task) → Fits ts h n many slack x releases → r ≡ next-of ts bytes x free offsets idle
 
 -- from an offset on the source shows idle records, one behind the other, and then none
 pub data IdlesRead (S : Source) : ℕ → Type 0 where

@@ -6,7 +6,7 @@ use Prim.Native.Nat.{ℕ, _+_}
 use lib.Dec.{leb}
 use Rattle.rules.specs.declared.Idle.{Idle}
 use Rattle.rules.specs.declared.Inversion.{Inversion}
-use Rattle.rules.specs.Tasks.{both}
+use Rattle.rules.specs.Tasks.{both, largest-number}
 use Rattle.rules.specs.Marks.{Mark, size}
 use Rattle.rules.specs.Offsets.{Shown, unreadable, no-record, shows, last-offset}
 use Rattle.images.specs.Table.{stands-at}
@@ -31,9 +31,9 @@ inversion-case unreadable = inversion-answer.Unreadable
 inversion-case no-record = inversion-answer.NoRecord
 inversion-case (shows r after) = inversion-answer.Shows r
 
--- no record's delay: the largest number of 32 bits
+-- no record's delay
 abbrev pub no-delay : ℕ
-no-delay = 4294967295
+no-delay = largest-number
 
 -- a delay as a number
 abbrev pub delay-number : Option ℕ → ℕ

@@ -9,6 +9,7 @@ use records::idle_keeps;
 use records::inversion_keeps;
 use rules::Idle;
 use rules::Inversion;
+use rules::LARGEST;
 ghost use mathlib.Core.Path.{_≡_};
 ghost use mathlib.Core.List.{List};
 ghost use mathlib.Core.Bool.{true};
@@ -24,19 +25,22 @@ ghost use Rattle.records.specs.Fits.{SetFits};
 ghost use Rattle.decision.specs.Fits.{Fits};
 ghost use Rattle.decision.specs.Shown.{whole-at, idle-case, inversion-case, no-delay, delay-number};
 ghost use Rattle.decision.specs.Waiting.{mask-of, come-by, set-bit, clear-bit, least-of};
-ghost use Rattle.decision.specs.Next.{IdlesRead, AllRead, next-of, past-if, Choosing, IsChosen, StartsAt, Idling, IdledTo};
+ghost use Rattle.decision.specs.Next.{IdlesRead, AllRead, next-of, FindsNext, past-if, Choosing, IsChosen, StartsAt, Idling, IdledTo};
 
-// The largest number of 32 bits: no record's delay, and the byte at or before which every record ends.
-const LAST: u32 = 4294967295;
+// The last offset: every record ends at or before this byte, so none begins there.
+pub const LAST_OFFSET: u32 = LARGEST;
+
+// No record's delay.
+const NO_DELAY: u32 = LARGEST;
 
 // The byte at or before which a record must end: the end of the image, or the largest offset.
 fn readable_to(image: &[u8]) -> usize
     ensures { λ r. ⌜ r ≡ min (length (now (image .entry))) last-offset ⌝ }
 {
-    if image.len() < (LAST as usize) {
+    if image.len() < (LAST_OFFSET as usize) {
         return image.len();
     }
-    LAST as usize
+    LAST_OFFSET as usize
 }
 
 // Does a whole record with a mark stand at an offset?
@@ -82,7 +86,8 @@ fn idle_shown(
     slack: &[u32; 16],
     o: u32,
 ) -> IdleShown
-    requires { ⌜ (n ≤ 16) × (judged ≡ true → ((ts : List Task) × SetFits ts h n (now jobs) (now slack)
+    requires few { ⌜ n ≤ 16 ⌝ }
+    requires read { ⌜ (judged ≡ true → ((ts : List Task) × SetFits ts h n (now jobs) (now slack)
         × (readable (lent (now image) ts .idle-shown o) ≡ true))) ⌝ }
     ensures { λ r. ⌜ ((ts : List Task) → SetFits ts h n (now (jobs .entry)) (now (slack .entry)) →
         r ≡ idle-case (lent (now (image .entry)) ts .idle-shown o)) ⌝ }
@@ -154,7 +159,8 @@ fn tasks_readable(
     slack: &[u32; 16],
     offsets: &[u32; 16],
 ) -> bool
-    requires { ⌜ (n ≤ 16) × (judged ≡ true → ((ts : List Task) × (h : ℕ) × SetFits ts h n (now jobs) (now slack)
+    requires few { ⌜ n ≤ 16 ⌝ }
+    requires read { ⌜ (judged ≡ true → ((ts : List Task) × (h : ℕ) × SetFits ts h n (now jobs) (now slack)
         × (tasks-readable (lent (now image) ts) n (now offsets) ≡ true))) ⌝ }
     ensures { λ r. ⌜ ((ts : List Task) (h : ℕ) → SetFits ts h n (now (jobs .entry)) (now (slack .entry)) →
         r ≡ tasks-readable (lent (now (image .entry)) ts) n (now (offsets .entry))) ⌝ }
@@ -242,7 +248,7 @@ fn waiting(n: usize, release: &[u32; 16], t: u32) -> u16
     mask
 }
 
-// The delay that an offset which can be read shows for a job of a task; LAST where it shows no record of that job. There stands a PV or EN, and their
+// The delay that an offset which can be read shows for a job of a task; NO_DELAY where it shows no record of that job. There stands a PV or EN, and their
 // first bytes differ.
 fn own_delay(image: &[u8], offset: u32, task: u32, job: u32) -> u32
     requires { ⌜ ((ts : List Task) × (readable (lent (now image) ts .inversion-shown offset) ≡ true)) ⌝ }
@@ -251,21 +257,22 @@ fn own_delay(image: &[u8], offset: u32, task: u32, job: u32) -> u32
 {
     let at = offset as usize;
     if image[at] != row_of(PV).first {
-        return LAST;
+        return NO_DELAY;
     }
     let r = images::inversion_body(images::part(image, at + 2, body_of(PV)));
     if r.task != task {
-        return LAST;
+        return NO_DELAY;
     }
     if r.job != job {
-        return LAST;
+        return NO_DELAY;
     }
     r.delay
 }
 
 // Does an offset which can be read show the record of a job of a task, with this delay?
 fn shows_delay(image: &[u8], offset: u32, task: u32, job: u32, delay: u32) -> bool
-    requires { ⌜ ((ts : List Task) × (readable (lent (now image) ts .inversion-shown offset) ≡ true)) × (delay < no-delay) ⌝ }
+    requires shown { ⌜ ((ts : List Task) × (readable (lent (now image) ts .inversion-shown offset) ≡ true)) ⌝ }
+    requires a_delay { ⌜ delay < no-delay ⌝ }
     ensures { λ r. ⌜ ((ts : List Task) → readable (lent (now (image .entry)) ts .inversion-shown offset) ≡ true →
         r ≡ eqb (delay-number (own-delay (lent (now (image .entry)) ts .inversion-shown offset) task job)) delay) ⌝ }
 {
@@ -316,7 +323,7 @@ fn chosen_task(
         if left == 0 {
             break 'tasks Chosen {
                 task: first,
-                own: own_delay(image, offsets[i], first, next[i]) < LAST,
+                own: own_delay(image, offsets[i], first, next[i]) < NO_DELAY,
             };
         }
         let task = lowest(left);
@@ -354,7 +361,8 @@ fn own_offset(own: bool, offset: u32) -> u32
     offset
 }
 
-// What starts at an instant, where no idle record is used; a start that would end late is refused.
+// What starts at an instant, where no idle record is used; a start that would end late is refused. A start clears its task's bit, and is an inversion
+// unless all that still wait have higher numbers.
 fn start_at(
     image: &[u8],
     n: usize,
@@ -384,7 +392,8 @@ fn start_at(
     if slack[i] < t - release[i] {
         return NextStart::Stuck(18);
     }
-    let inverts = lowest(without_started(mask, task)) < task;
+    let left = without_started(mask, task);
+    let inverts = lowest(left) <= task;
     let inversion = own_offset(c.own, offsets[i]);
     NextStart::Starts(Found {
         task,
@@ -424,8 +433,9 @@ fn past_idles(
     free: u32,
     idle: u32,
 ) -> Idled
-    requires { ⌜ ((ts : List Task) × (x releases offsets : List ℕ) × Idling ts (now image) h n (now jobs) (now slack) x releases offsets first
-        × (judged ≡ true → IdlesRead (lent (now image) ts) idle)) × (free ≤ h) ⌝ }
+    requires idling { ⌜ ((ts : List Task) × (x releases offsets : List ℕ) × Idling ts (now image) h n (now jobs) (now slack) x releases offsets first
+        × (judged ≡ true → IdlesRead (lent (now image) ts) idle)) ⌝ }
+    requires within { ⌜ free ≤ h ⌝ }
     ensures { λ r. ⌜ ((ts : List Task) (x releases offsets : List ℕ) →
         Idling ts (now (image .entry)) h n (now (jobs .entry)) (now (slack .entry)) x releases offsets first →
         IdledTo ts (now (image .entry)) h n (now (slack .entry)) x releases offsets free idle r) ⌝ }
@@ -480,10 +490,11 @@ pub fn next_start(
     idle: u32,
     offsets: &[u32; 16],
 ) -> NextStart
-    requires { ⌜ ((ts : List Task) × Fits ts h n (now jobs) (now slack) (now next) (now release)
-        × (judged ≡ true → AllRead (now image) ts n (now offsets) idle)) × (free ≤ h) ⌝ }
-    ensures { λ r. ⌜ ((ts : List Task) → Fits ts h n (now (jobs .entry)) (now (slack .entry)) (now (next .entry)) (now (release .entry)) →
-        r ≡ next-of ts (now (image .entry)) (now (next .entry)) free (now (offsets .entry)) idle) ⌝ }
+    requires fits { ⌜ ((ts : List Task) × Fits ts h n (now jobs) (now slack) (now next) (now release)
+        × (judged ≡ true → AllRead (now image) ts n (now offsets) idle)) ⌝ }
+    requires within { ⌜ free ≤ h ⌝ }
+    ensures { λ r. ⌜ FindsNext (now (image .entry)) n h (now (jobs .entry)) (now (slack .entry)) (now (next .entry)) (now (release .entry))
+        free idle (now (offsets .entry)) r ⌝ }
 {
     if !tasks_readable(image, judged, n, jobs, slack, offsets) {
         return NextStart::Stuck(25);

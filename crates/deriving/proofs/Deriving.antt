@@ -14,7 +14,7 @@ use Rattle.rules.specs.Tasks.{limits, hyperperiod}
 use Rattle.rules.specs.Setting.{Tables}
 use Rattle.rules.specs.Marks.{ID, PV, EN, size}
 use Rattle.rules.specs.Image.{image, record-of, set-records, table-image}
-use Rattle.rules.specs.Operations.{derived, derived-image, make-answer, output-after, into, derive, derive-output}
+use Rattle.rules.specs.Operations.{derived, derived-image, make-answer, output-after, into, derive, derive-output, Derives}
 use Rattle.rules.proofs.Images.{records-before, table-image-length}
 use Rattle.writing.specs.Writing.{put-at, record-put}
 use Rattle.timetables.specs.declared.Timetable.{Timetable}
@@ -28,9 +28,9 @@ use Rattle.deriving.proofs.ValidEntries.{few-idles, few-inversions}
 
 -- what an image is refused with is answered, and the output is as it was
 pub refused-so : (bytes old : List ℕ) (t : Timetable) → JudgedAs bytes true t → (t .refusal .number ≡ 0 → ⊥) →
-    (make-case.Refused (t .refusal) ≡ derive bytes old) × (old ≡ derive-output bytes old)
+    Derives bytes old (make-case.Refused (t .refusal)) old
 unfolding derive derive-output
-refused-so bytes old t judged numbered = let e = judged .refused numbered .0 in (rw e, rw e)
+refused-so bytes old t judged numbered = let e = judged .refused numbered .0 in record { answer = rw e; output = rw e }
 
 module _ (bytes : List ℕ) (t : Timetable) (g : Good bytes true t) where
   -- the set's tasks
@@ -82,12 +82,12 @@ module _ (bytes : List ℕ) (t : Timetable) (g : Good bytes true t) where
 
   -- an output that is too short is refused, and is as it was
   pub too-short : (old : List ℕ) (n : ℕ) → n ≡ long → length old < n →
-      (make-case.Refused (refusal 20 0) ≡ derive bytes old) × (old ≡ derive-output bytes old)
+      Derives bytes old (make-case.Refused (refusal 20 0)) old
   unfolding derive derive-output
   too-short old n n-is short =
       let e : derived-image (length old) bytes ≡ refuses (refusal 20 0) =
       image-given (length old) ∙ rw (lt-leb (length (table-image ts X)) (length old) (omega (arith, image-long))) in
-      (rw e, rw e)
+      record { answer = rw e; output = rw e }
 
   module _ (old : List ℕ) (n : ℕ) (n-is : n ≡ long) (room : n ≤ length old) where
     -- the image is given

@@ -7,6 +7,7 @@ use images::ROWS;
 use images::SL;
 use rules::Idle;
 use rules::Inversion;
+use rules::LARGEST;
 use rules::MakeAnswer;
 use rules::Refusal;
 use rules::TaskSet;
@@ -15,17 +16,18 @@ ghost use mathlib.Core.Path.{_≡_};
 ghost use Prim.Native.Nat.{max, _≤_};
 ghost use lib.ListN.{length, take};
 ghost use Rattle.rules.specs.Tasks as book;
-ghost use Rattle.rules.specs.Operations.{derive as derives, derive-output};
+ghost use Rattle.rules.specs.Operations.{Derives};
 ghost use Rattle.timetables.specs.Instants.{least-of};
 ghost use Rattle.timetables.specs.Judged.{tasks-of};
 ghost use Rattle.deriving.specs.Putting.{FewCounted, PartsBegin, tables-put, tables-behind, CanPut};
 
 // An instant that no release comes to: there is no next job.
-const NEVER: u32 = 4294967295;
+const NEVER: u32 = LARGEST;
 
 // The instant from which a job is waiting for the processor: the larger of the free instant and the least release among jobs not yet started.
 fn instant(n: usize, release: &[u32; 16], free: u32) -> u32
-    requires { ⌜ (n ≤ 16) × (length (now release) ≡ 16) ⌝ }
+    requires few { ⌜ n ≤ 16 ⌝ }
+    requires slots { ⌜ length (now release) ≡ 16 ⌝ }
     ensures { λ r. ⌜ r ≡ max free (least-of (take n (now (release .entry)))) ⌝ }
 {
     let mut least = NEVER;
@@ -110,7 +112,7 @@ fn put_irregularities(image: &[u8], s: TaskSet, listed: usize, c: Counts, out: &
 
 // Deriving: the table image of a timetable image at the front of the output, and nothing else changed.
 pub fn derive(image: &[u8], out: &mut [u8]) -> MakeAnswer
-    ensures { λ r. ⌜ (r ≡ derives (now (image .entry)) (now (out .entry))) × (now (out .exit) ≡ derive-output (now (image .entry)) (now (out .entry))) ⌝ }
+    ensures { λ r. ⌜ Derives (now (image .entry)) (now (out .entry)) r (now (out .exit)) ⌝ }
 {
     let t = timetables::judge(image, true);
     if t.refusal.number != 0 {

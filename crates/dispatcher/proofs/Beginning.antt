@@ -14,7 +14,7 @@ use Rattle.rules.specs.Priority.{slot, setting}
 use Rattle.rules.specs.Decision.{replay}
 use Rattle.rules.specs.Judging.{records-fault, compared}
 use Rattle.rules.specs.Operations.{Tabled, check-answer, check-tables}
-use Rattle.rules.specs.Dispatcher.{zeros, zero-task, stopped, refused, start-next, fresh, begin-accepted, begin-framed, begin}
+use Rattle.rules.specs.Dispatcher.{zeros, zero-task, stopped, refused, start-next, fresh, at-begin, begin-accepted, begin-framed, begin}
 use Rattle.rules.proofs.Cases.{first-none, or-else-gives}
 use Rattle.rules.proofs.Arrays.{slot-zeros}
 use Rattle.rules.proofs.GoodSets.{good-set}
@@ -58,7 +58,7 @@ module _ (bytes : List ℕ) (t : Judgement) (j : JudgedAs bytes t) where
         rw (known .cycle) (good-set ts (first-none (set-fault ts) (records-fault ts (hyperperiod ts) (known .tables)) no-fault .0))
 
     -- the first start is made from the fresh state
-    pub first-turn : start-next bytes (fresh-state (t .set) (t .first)) 0 zeros 0 (t .first .inversions) (t .first .idle) ≡ begin bytes
+    pub first-turn : start-next bytes (fresh-state (t .set) (t .first)) 0 (at-begin (fresh-state (t .set) (t .first))) ≡ begin bytes
     unfolding begin
     first-turn =
         let s : TaskSet = t .set in
@@ -66,6 +66,6 @@ module _ (bytes : List ℕ) (t : Judgement) (j : JudgedAs bytes t) where
         let slots : s .tasks ≡ tasks-of s ++ replicate (limits .tasks - length (tasks-of s)) zero-task = rw (known .tasks-many) (known .zero-slots) in
         let set : s ≡ fresh i .set = λ k. record { n = sym (known .tasks-many) k; tasks = slots k } in
         let same : fresh-state s (t .first) ≡ fresh i = λ k. fresh-state (set k) (known .offsets k) in
-        let begun : begin bytes ≡ start-next bytes (fresh i) 0 zeros 0 (fresh i .now .inversions) (fresh i .now .idle) =
+        let begun : begin bytes ≡ start-next bytes (fresh i) 0 (at-begin (fresh i)) =
         ap (begin-framed bytes) (known .read) ∙ ap (begin-accepted bytes i) (known .judged) in
-        ap (λ (d : State). start-next bytes d 0 zeros 0 (d .now .inversions) (d .now .idle)) same ∙ sym begun
+        ap (λ (d : State). start-next bytes d 0 (at-begin d)) same ∙ sym begun

@@ -19,6 +19,7 @@ use Rattle.rules.specs.declared.Turn.{Turn}
 use Rattle.rules.specs.Refusals.{refusal}
 use Rattle.rules.specs.Tasks.{both, limits, task, jobs, hyperperiod, few-enough, figures, memory-fault, judge-set}
 use Rattle.rules.specs.Priority.{slot, all-started}
+use Rattle.rules.specs.Offsets.{standing}
 use Rattle.rules.specs.Dispatcher.{stopped, is-stopped, set-of, counts-possible, possible, began, latest-end, refused, front, start-next, last-cycle}
 use Rattle.rules.specs.Dispatcher.{next-turn, go-on}
 use Rattle.rules.specs.GoingOn.{PossibleState}
@@ -262,14 +263,14 @@ module _ {d : State} {n h : ℕ} {many slack releases : List ℕ} {free : ℕ} (
 
     -- they have not: the next job of this cycle
     pub in-this-cycle : {g : Going} {cycle : ℕ} {next offsets : List ℕ} → test ≡ false →
-        (StartFrom d false n h many slack cycle next releases offsets → Makes d (start-next bytes d cycle next free offsets (d .now .idle)) g) →
+        (StartFrom d false n h many slack cycle next releases offsets → Makes d (start-next bytes d cycle (standing next free offsets (d .now .idle))) g) →
         StartFrom d false n h many slack cycle next releases offsets → Makes d (next-turn bytes d) g
     in-this-cycle t made s = as-turn (rw (as-tested ∙ t, c .free-from, s .cycle-is, s .next-are, s .offsets-are, next-turn)) (made s)
 
     module _ (t : test ≡ true) where
       -- they have: the first job of the next cycle
       pub in-next-cycle : {g : Going} {cycle : ℕ} {none starts again : List ℕ} →
-          (StartFrom d true n h many slack cycle none starts again → Makes d (start-next bytes d cycle none 0 again (d .first .idle)) g) →
+          (StartFrom d true n h many slack cycle none starts again → Makes d (start-next bytes d cycle (standing none 0 again (d .first .idle))) g) →
           StartFrom d true n h many slack cycle none starts again → Makes d (next-turn bytes d) g
       in-next-cycle made s =
           as-turn

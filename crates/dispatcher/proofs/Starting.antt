@@ -11,13 +11,14 @@ use Rattle.rules.specs.declared.StartAnswer.the-variants.{Start}
 use Rattle.rules.specs.declared.Dispatcher.{Dispatcher as State}
 use Rattle.rules.specs.declared.Turn.{Turn}
 use Rattle.rules.specs.Refusals.{refusal}
-use Rattle.rules.specs.Tasks.{GoodSet, task, hyperperiod}
+use Rattle.rules.specs.Tasks.{task, hyperperiod}
 use Rattle.rules.specs.Priority.{slot, start-job, setting}
-use Rattle.rules.specs.Offsets.{lent, past-own, put-slot, NextStart, next-is, stuck, next-start}
+use Rattle.rules.specs.Offsets.{lent, past-own, put-slot, standing, NextStart, next-is, stuck, next-start}
 use Rattle.rules.specs.Dispatcher.{stopped, set-of, refused, started, start-next}
 use Rattle.rules.proofs.Cases.{clash}
 use Rattle.rules.proofs.Arrays.{slot-element}
 use Rattle.rules.proofs.GoodSets.{set-good}
+use Rattle.rules.proofs.NextTurns.{next-keeps-rules}
 use Rattle.rules.proofs.StuckStarts.{by-next}
 use Rattle.numbers.specs.declared.Going.the-variants.{Moves}
 use Rattle.numbers.specs.Going.{cycle-from, next-from, inversions-from, turn-of}
@@ -27,7 +28,6 @@ use Rattle.decision.specs.declared.NextStart.the-variants.{Starts, Stuck}
 use Rattle.decision.specs.Fits.{Fits}
 use Rattle.decision.specs.Next.{inverts, next-case, next-of}
 use Rattle.replay.proofs.Stores.{start-stores, put-stores}
-use Rattle.replay.proofs.Running.{found-left}
 use Rattle.dispatcher.proofs.Slots.{put-next}
 
 -- the turn that starts a job: of a state, in a cycle, with next job numbers and offsets after it
@@ -50,7 +50,7 @@ module _ (bytes : List ℕ) (d : State) {h n : ℕ} {many slack x releases : Lis
     (is : (ts : List Task) → Fits ts h n many slack x releases → answer ≡ next-of ts bytes x f offsets o) where
   -- the rule book's next start
   abbrev in-book : NextStart
-  in-book = next-start (setting (set-of d)) (lent bytes (set-of d)) x f offsets o
+  in-book = next-start (setting (set-of d)) (lent bytes (set-of d)) (standing x f offsets o)
 
   -- a start with what it used
   abbrev told : ℕ → ℕ → ℕ → Found
@@ -71,9 +71,9 @@ module _ (bytes : List ℕ) (d : State) {h n : ℕ} {many slack x releases : Lis
   answered-stuck number e = is (set-of d) fits ∙ ap (next-case (set-of d) bytes x offsets) e
 
   -- none is found: 25
-  pub stuck-next : (c number : ℕ) → answer ≡ Stuck number → refused (refusal 25 0) stopped ≡ start-next bytes d c x f offsets o
+  pub stuck-next : (c number : ℕ) → answer ≡ Stuck number → refused (refusal 25 0) stopped ≡ start-next bytes d c (standing x f offsets o)
   stuck-next c number e =
-      by-next in-book (λ i t w g. let s = answered-start i t w g in clash (cc)) (λ m g. sym (ap (started bytes d c x offsets) g))
+      by-next in-book (λ i t w g. let s = answered-start i t w g in clash (cc)) (λ m g. sym (ap (started bytes d c (standing x f offsets o)) g))
 
   -- how a start that is found comes about
   by-found : {A : Type 0} (found : Found) → answer ≡ Starts found → ((i t w : ℕ) → in-book ≡ next-is i t w → told i t w ≡ found → A) → A
@@ -89,23 +89,22 @@ module _ (bytes : List ℕ) (d : State) {h n : ℕ} {many slack x releases : Lis
   found-task found e =
       by-found found e
       (λ i t w g same.
-      let good : GoodSet (set-of d) (hyperperiod (set-of d)) = rw cycle-is at (fits .set .good) in
-      let left = found-left bytes good x offsets i t w f o g in
+      let kept = next-keeps-rules bytes (set-of d) (standing x f offsets o) i t w g in
       let at-most = div-le-self (hyperperiod (set-of d)) (task (set-of d) i .period) in
-      rw (← same) (omega (arith, left .0, fits .set .n-tasks), omega (arith, left .1, cycle-is, at-most)))
+      rw (← same) (omega (arith, kept .a-task, fits .set .n-tasks), omega (arith, kept .left, cycle-is, at-most)))
 
   -- the turn that makes the start
   found-turn : (c : ℕ) (found : Found) → answer ≡ Starts found →
       turn-with d c (found .task) (slot x (found .task)) (c * h + found .start) (found .start) (start-job x (found .task)) (found .idle)
       (put-slot offsets (found .task) (found .inversion))
-      ≡ start-next bytes d c x f offsets o
-  found-turn c found e = by-found found e (λ i t w g same. rw (← same, cycle-is) (sym (ap (started bytes d c x offsets) g)))
+      ≡ start-next bytes d c (standing x f offsets o)
+  found-turn c found e = by-found found e (λ i t w g same. rw (← same, cycle-is) (sym (ap (started bytes d c (standing x f offsets o)) g)))
 
   -- as it is made of stores in arrays
   pub start-turn : (c : ℕ) (found : Found) → answer ≡ Starts found → length x ≡ 16 → length offsets ≡ 16 →
       turn-with d c (found .task) (getD x (found .task) 0) (c * h + found .start) (found .start)
       (set x (found .task) (getD x (found .task) 0 + 1)) (found .idle) (set offsets (found .task) (found .inversion))
-      ≡ start-next bytes d c x f offsets o
+      ≡ start-next bytes d c (standing x f offsets o)
   start-turn c found e slots offset-slots =
       let i : ℕ = found .task in
       let next : set x i (getD x i 0 + 1) ≡ start-job x i = start-stores x i (omega (arith, found-task found e .0, fits .set .few)) in
@@ -116,7 +115,7 @@ module _ (bytes : List ℕ) (d : State) {h n : ℕ} {many slack x releases : Lis
   -- as a change of the state
   pub start-moves : (c : ℕ) (found : Found) → answer ≡ Starts found → (again : Bool) → c ≡ cycle-from d again → x ≡ next-from d again →
       offsets ≡ inversions-from d again →
-      start-next bytes d c x f offsets o
+      start-next bytes d c (standing x f offsets o)
       ≡ turn-of d
       (Moves
       (record {

@@ -1,3 +1,3 @@
 pub mod Tested
 pub mod States
-pub mod Runs
+pub mod Turns

@@ -3,6 +3,7 @@ use decision::NextStart;
 use numbers::Going;
 use numbers::Move;
 use rules::Dispatcher;
+use rules::LARGEST;
 use rules::Offsets;
 use rules::Refusal;
 use rules::Running;
@@ -17,18 +18,20 @@ ghost use Prim.Native.Nat.{ℕ, _+_, _*_, _≤_};
 ghost use lib.ListN.{length};
 ghost use Rattle.rules.specs.declared.Dispatcher.{Dispatcher as State};
 ghost use Rattle.rules.specs.Refusals as book-refusals;
+ghost use Rattle.rules.specs.Offsets.{standing};
 ghost use Rattle.rules.specs.Dispatcher as book;
 ghost use Rattle.numbers.specs.Numbers.{number-at, state-from};
 ghost use Rattle.records.specs.Tables.{Filled};
 ghost use Rattle.decision.specs.Fits.{Fits};
 ghost use Rattle.dispatcher.specs.Tested.{last-and-in-time};
+ghost use Rattle.dispatcher.specs.Turns.{Begun, GoneOn, BegunInPlace, GoneOnInPlace, GoneOnNumbers};
 ghost use Rattle.dispatcher.specs.States.{WithGoodSet, CanMeasure, Measured, CanGoOn, StartFrom, Makes};
 
 // The last cycle.
-const LAST: u32 = 4294967295;
+const LAST_CYCLE: u32 = LARGEST;
 
 // The stopped state: all numbers 0.
-pub fn stopped() -> Dispatcher
+fn stopped() -> Dispatcher
     ensures { λ r. ⌜ r ≡ book.stopped ⌝ }
 {
     let set = TaskSet {
@@ -82,7 +85,8 @@ fn last_and_in_time(t: Task, next: u32, r: Running) -> bool
 
 // The first n slots of one array, then the slots of another.
 fn front<'a>(n: usize, a: &'a [u32; 16], b: &'a [u32; 16]) -> [u32; 16]
-    requires { ⌜ (n ≤ 16) × (length (now b) ≡ 16) ⌝ }
+    requires few { ⌜ n ≤ 16 ⌝ }
+    requires slots { ⌜ length (now b) ≡ 16 ⌝ }
     ensures { λ r. ⌜ r ≡ book.front n (now (a .entry)) (now (b .entry)) ⌝ }
 {
     let mut slots = *b;
@@ -109,8 +113,9 @@ fn start_next(
     offsets: [u32; 16],
     idle: u32,
 ) -> Turn
-    requires { ⌜ Fits (book.set-of d) h (d .set .n) (now jobs) (now slack) next (now release) × (free ≤ h) ⌝ }
-    ensures { λ r. ⌜ r ≡ book.start-next (now (image .entry)) d cycle next free offsets idle ⌝ }
+    requires fits { ⌜ Fits (book.set-of d) h (d .set .n) (now jobs) (now slack) next (now release) ⌝ }
+    requires within { ⌜ free ≤ h ⌝ }
+    ensures { λ r. ⌜ r ≡ book.start-next (now (image .entry)) d cycle (standing next free offsets idle) ⌝ }
 {
     let n = d.set.n as usize;
     match replay::one_start(
@@ -201,7 +206,8 @@ fn measured(
 
 // The release of each of n tasks' job 0: its offset.
 fn first_releases(numbers: &[u32; 119], n: usize, release: &mut [u32; 16])
-    requires { ⌜ (n ≤ 16) × (length (now release) ≡ 16) ⌝ }
+    requires few { ⌜ n ≤ 16 ⌝ }
+    requires slots { ⌜ length (now release) ≡ 16 ⌝ }
     ensures { λ _. ⌜ Filled (now (release .entry)) (λ (i : ℕ). number-at (now (numbers .entry)) (1 + 4 * i)) 0 n (now (release .exit)) ⌝ }
 {
     let mut i: usize = 0;
@@ -226,10 +232,11 @@ fn moves(
     idle: u32,
     offsets: &[u32; 16],
 ) -> Going
-    requires { ⌜ ((d : State) × StartFrom d again n h (now jobs) (now slack) cycle (now next) (now release) (now offsets)) × (free ≤ h) ⌝ }
+    requires from { ⌜ ((d : State) × StartFrom d again n h (now jobs) (now slack) cycle (now next) (now release) (now offsets)) ⌝ }
+    requires within { ⌜ free ≤ h ⌝ }
     ensures { λ r. ⌜ ((d : State) →
         StartFrom d again n h (now (jobs .entry)) (now (slack .entry)) cycle (now (next .entry)) (now (release .entry)) (now (offsets .entry)) →
-        Makes d (book.start-next (now (image .entry)) d cycle (now (next .entry)) free (now (offsets .entry)) idle) r) ⌝ }
+        Makes d (book.start-next (now (image .entry)) d cycle (standing (now (next .entry)) free (now (offsets .entry)) idle)) r) ⌝ }
 {
     match replay::one_start(image, n, h, jobs, slack, next, release, free, idle, offsets) {
         NextStart::Stuck(_) => Going::Stops(25),
@@ -266,7 +273,7 @@ fn next_going(
     let offsets = numbers::numbers_from(numbers, 86);
     let cycle = numbers[81];
     if replay::all_started(n, h, release) {
-        if cycle < LAST {
+        if cycle < LAST_CYCLE {
             let zeros = [0u32; 16];
             let first = numbers::numbers_from(numbers, 103);
             let none = front(n, &zeros, &next);
@@ -387,9 +394,7 @@ fn going(image: &[u8], numbers: &[u32; 119], end: u64) -> Going
 
 // Going on with the state's 119 numbers, of which those are stored that change.
 pub fn go_on_numbers(image: &[u8], numbers: &mut [u32; 119], end: u64) -> StartAnswer
-    ensures { λ r. ⌜ (r ≡ book.go-on (now (image .entry)) (state-from (now (numbers .entry))) end .answer)
-        × (now (numbers .exit) ≡ book.numbers (book.go-on (now (image .entry)) (state-from (now (numbers .entry))) end .state))
-        × (state-from (now (numbers .exit)) ≡ book.go-on (now (image .entry)) (state-from (now (numbers .entry))) end .state) ⌝ }
+    ensures { λ r. ⌜ GoneOnNumbers (now (image .entry)) (now (numbers .entry)) end r (now (numbers .exit)) ⌝ }
 {
     let g = going(image, numbers, end);
     numbers::store(numbers, g)
@@ -397,7 +402,7 @@ pub fn go_on_numbers(image: &[u8], numbers: &mut [u32; 119], end: u64) -> StartA
 
 // Going on, with the state handed in and back by value.
 pub fn go_on(image: &[u8], d: Dispatcher, end: u64) -> Turn
-    ensures { λ r. ⌜ r ≡ book.go-on (now (image .entry)) d end ⌝ }
+    ensures { λ r. ⌜ GoneOn (now (image .entry)) d end r ⌝ }
 {
     let mut numbers = numbers::numbers_of(d);
     let answer = go_on_numbers(image, &mut numbers, end);
@@ -407,7 +412,7 @@ pub fn go_on(image: &[u8], d: Dispatcher, end: u64) -> Turn
 
 // Beginning: full acceptance, then the first start; a refused beginning hands back the stopped state.
 pub fn begin(image: &[u8]) -> Turn
-    ensures { λ r. ⌜ r ≡ book.begin (now (image .entry)) ⌝ }
+    ensures { λ r. ⌜ Begun (now (image .entry)) r ⌝ }
 {
     let t = tables::judge(image);
     if t.refusal.number != 0 {
@@ -451,8 +456,7 @@ pub fn begin(image: &[u8]) -> Turn
 
 // Going on in place: the state behind the reference becomes the one that going on hands back.
 pub fn go_on_in_place(image: &[u8], d: &mut Dispatcher, end: u64) -> StartAnswer
-    ensures { λ r. ⌜ (r ≡ book.go-on (now (image .entry)) (now (d .entry)) end .answer)
-        × (now (d .exit) ≡ book.go-on (now (image .entry)) (now (d .entry)) end .state) ⌝ }
+    ensures { λ r. ⌜ GoneOnInPlace (now (image .entry)) (now (d .entry)) end r (now (d .exit)) ⌝ }
 {
     let turn = go_on(image, *d, end);
     *d = turn.state;
@@ -461,7 +465,7 @@ pub fn go_on_in_place(image: &[u8], d: &mut Dispatcher, end: u64) -> StartAnswer
 
 // Beginning in place: the state behind the reference becomes the one that beginning hands back, whatever it was.
 pub fn begin_in_place(image: &[u8], d: &mut Dispatcher) -> StartAnswer
-    ensures { λ r. ⌜ (r ≡ book.begin (now (image .entry)) .answer) × (now (d .exit) ≡ book.begin (now (image .entry)) .state) ⌝ }
+    ensures { λ r. ⌜ BegunInPlace (now (image .entry)) r (now (d .exit)) ⌝ }
 {
     let begun = begin(image);
     *d = begun.state;

@@ -20,7 +20,7 @@ use Rattle.rules.proofs.Shapes.{in-later-turn}
 use Rattle.images.specs.declared.Row.{Row}
 use Rattle.images.specs.Table.{mark-of, code-row, stands-at}
 use Rattle.images.proofs.TableLaws.{stands-whole}
-use Rattle.framing.specs.Frames.{Reached, RunOf, TowardsTasks}
+use Rattle.framing.specs.Frames.{Reached, RunOf, TowardsTasks, TasksPassed}
 use Rattle.framing.proofs.PlaceLaws.{place-path, placed-after}
 use Rattle.framing.proofs.TaskLaws.{towards-due}
 
@@ -53,7 +53,7 @@ module _ {kind : ℕ} {bytes : List ℕ} {s : Place} (m : Mark) (re : Reached ki
   rest = drop (s .offset) bytes
 
   -- it is allowed here
-  here : turns.Whole kind s rest m
+  here : turns.WholeAllowed kind s rest m
   unfolding stands-at
   here =
       let a = both-true (leb (size m) (length rest)) _ stands in
@@ -149,7 +149,7 @@ module _ {kind : ℕ} {bytes : List ℕ} {s : Place} (re : Reached kind bytes s)
         tasks = s .tasks;
         listed = s .listed;
         inversions = s .inversions;
-      } → Reached kind bytes t × TowardsTasks bytes t × (s .offset ≤ t .offset)
+      } → TasksPassed kind bytes s t
   tasks-passed many len rank run e its-rank t is =
       let a = w .announced (omega (arith, is-due)) in
       let b = w .counted (omega (arith, is-due)) in
@@ -157,11 +157,9 @@ module _ {kind : ℕ} {bytes : List ℕ} {s : Place} (re : Reached kind bytes s)
       let reached : Reached kind bytes (tasks-behind s many) =
       past-run TK (s .offset) many (tasks-behind s) (every-kind kind) (tasks-apart kind s many few) (run .stand)
       (subst (λ (p : Place). Reached kind bytes p) from-here re) many (omega arith) in
-      rw (is, e, its-rank, w .nothing-listed .0, w .nothing-listed .1) (
-        reached,
-        towards-due bytes (s .index + many) (s .offset + many * size TK) (s .due - many) (s .tasks) (a .0) (a .1) (a .2) (omega arith) (omega arith),
-        omega arith,
-      )
+      let towards : TowardsTasks bytes (tasks-behind s many) =
+      towards-due bytes (s .index + many) (s .offset + many * size TK) (s .due - many) (s .tasks) (a .0) (a .1) (a .2) (omega arith) (omega arith) in
+      rw (is, e, its-rank, w .nothing-listed .0, w .nothing-listed .1) (record { reached = reached; towards = towards; onwards = omega arith })
 
 -- a mark whose records an image of a kind lists: SL or ID
 pub record Lists (kind : ℕ) (m : Mark) : Type 0 where

@@ -83,7 +83,7 @@ module _ (kind : ℕ) (bytes : List ℕ) (s : Place) where
       )
 
       module _ (w : Whole bytes s k) where
-        front : turns.Whole kind s rest (mark-of k)
+        front : turns.WholeAllowed kind s rest (mark-of k)
         front = record { marked = marked; not-cut = omega (arith, length-drop (s .offset) bytes) }
 
         its-turn : may-follow (s .rank) (row (mark-of k) .rank) ≡ true

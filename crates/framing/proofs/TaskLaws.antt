@@ -24,7 +24,7 @@ use Rattle.framing.specs.declared.Step.the-variants as step-case
 use Rattle.framing.specs.declared.FrameAnswer.the-variants as frame-case
 use Rattle.framing.specs.declared.TasksAnswer.{TasksAnswer}
 use Rattle.framing.specs.declared.TasksAnswer.the-variants.{Framed, Refused}
-use Rattle.framing.specs.Frames.{Placed, Steps, Reached, TowardsTasks, TasksFramed, frame-answer}
+use Rattle.framing.specs.Frames.{Placed, Steps, Reached, TowardsTasks, ReachedLists, TasksFramed, frame-answer}
 use Rattle.framing.specs.SetRead.{tasks-offset}
 use Rattle.framing.proofs.StepLaws.{goes-further, refused-frame}
 
@@ -150,9 +150,9 @@ module _ (kind : ℕ) (bytes : List ℕ) (s : Place) (re : Reached kind bytes s)
 -- what an answer for the tasks says of the image
 module _ (kind : ℕ) (bytes : List ℕ) (a : TasksAnswer) (framed : TasksFramed kind bytes a) where
   -- framing comes to the place that is answered, where the later records may stand
-  pub tasks-reached : (s : Place) → a ≡ Framed s → Reached kind bytes s × (2 ≤ s .rank) × (s .rank ≤ 6)
+  pub tasks-reached : (s : Place) → a ≡ Framed s → ReachedLists kind bytes s
   unfolding TasksFramed
-  tasks-reached s e = let f = rw e at framed in (f .0, omega (arith, f .1 .rank), omega (arith, f .1 .rank))
+  tasks-reached s e = let f = rw e at framed in record { reached = f .0; behind-tasks = omega (arith, f .1 .rank); a-rank = omega (arith, f .1 .rank) }
 
   -- and has the refusal that is answered
   pub tasks-refused : (r : Refusal) → a ≡ Refused r → frame-case.Refused r ≡ frame-answer (frame kind bytes)

@@ -78,6 +78,18 @@ pub record TowardsTasks (bytes : List ℕ) (s : Place) : Type 0 where
   pub announced : 1 ≤ s .rank → (s .tasks ≡ getD bytes 4 0) × (1 ≤ s .tasks) × (s .tasks ≤ 16)
   pub counted : 1 ≤ s .rank → (s .index + s .due ≡ suc (s .tasks)) × (s .offset + s .due * size TK ≡ tasks-offset (s .tasks))
 
+-- a place that framing comes to, on the way to the one behind the tasks, and not before the place that it was at
+pub record TasksPassed (kind : ℕ) (bytes : List ℕ) (s t : Place) : Type 0 where
+  pub reached : Reached kind bytes t
+  pub towards : TowardsTasks bytes t
+  pub onwards : s .offset ≤ t .offset
+
+-- a place that framing comes to, behind the tasks
+pub record ReachedLists (kind : ℕ) (bytes : List ℕ) (s : Place) : Type 0 where
+  pub reached : Reached kind bytes s
+  pub behind-tasks : 2 ≤ s .rank
+  pub a-rank : s .rank ≤ 6
+
 -- the place behind TS and the tasks that it announces
 pub record BehindTasks (bytes : List ℕ) (s : Place) : Type 0 where
   pub rank : s .rank ≡ 2

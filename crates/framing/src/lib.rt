@@ -24,7 +24,8 @@ ghost use Rattle.rules.specs.Refusals.{refusal};
 ghost use Rattle.rules.specs.Framing.{frame as frame-of};
 ghost use Rattle.images.specs.Table.{mark-of};
 ghost use Rattle.framing.specs.Allowed.{kind-at, allowed-at};
-ghost use Rattle.framing.specs.Frames.{Placed, Whole, Follows, Steps, Reached, RunOf, TowardsTasks, TasksFramed, frame-answer};
+ghost use Rattle.framing.specs.Frames.{Placed, Whole, Follows, Steps, Reached, RunOf, TowardsTasks, TasksPassed, ReachedLists, TasksFramed};
+ghost use Rattle.framing.specs.Frames.{frame-answer};
 ghost use Rattle.framing.specs.SetRead.{tasks-offset, set-read};
 
 // Does an image of a kind have a mark?
@@ -123,7 +124,9 @@ fn after_task(image: &[u8], kind: u32, s: Place) -> Step
 
 // An SL or an ID: one more is listed.
 fn after_listed(image: &[u8], kind: u32, s: Place, k: usize) -> Step
-    requires { ⌜ (2 ≤ k) × (k < 4) × Whole (now image) s k ⌝ }
+    requires past_task { ⌜ 2 ≤ k ⌝ }
+    requires before_end { ⌜ k < 4 ⌝ }
+    requires whole { ⌜ Whole (now image) s k ⌝ }
     ensures { λ r. ⌜ Follows kind (now (image .entry)) s k r ⌝ }
 {
     let row = row_of(k);
@@ -229,8 +232,9 @@ fn run(image: &[u8], from: usize, k: usize, most: usize) -> usize
 
 // Past the TK records that stand here and are due.
 fn past_tasks(image: &[u8], kind: u32, s: Place) -> Place
-    requires { ⌜ Reached kind (now image) s × TowardsTasks (now image) s ⌝ }
-    ensures { λ r. ⌜ Reached kind (now (image .entry)) r × TowardsTasks (now (image .entry)) r × (s .offset ≤ r .offset) ⌝ }
+    requires reached { ⌜ Reached kind (now image) s ⌝ }
+    requires towards { ⌜ TowardsTasks (now image) s ⌝ }
+    ensures { λ r. ⌜ TasksPassed kind (now (image .entry)) s r ⌝ }
 {
     let count = run(image, s.offset, TK, s.due);
     if count < 1 {
@@ -253,8 +257,8 @@ fn past_tasks(image: &[u8], kind: u32, s: Place) -> Place
 
 // Past the SL or ID records that stand here, by the kind of image.
 fn past_listed(image: &[u8], kind: u32, s: Place) -> Place
-    requires { ⌜ Reached kind (now image) s × (2 ≤ s .rank) × (s .rank ≤ 6) ⌝ }
-    ensures { λ r. ⌜ Reached kind (now (image .entry)) r × (2 ≤ r .rank) × (r .rank ≤ 6) ⌝ }
+    requires { ⌜ ReachedLists kind (now image) s ⌝ }
+    ensures { λ r. ⌜ ReachedLists kind (now (image .entry)) r ⌝ }
 {
     let mut k = ID;
     if kind == 1 {
@@ -278,7 +282,7 @@ fn past_listed(image: &[u8], kind: u32, s: Place) -> Place
 
 // Past the PV records that stand here in a table image.
 fn past_inversions(image: &[u8], kind: u32, s: Place) -> Place
-    requires { ⌜ Reached kind (now image) s × (2 ≤ s .rank) × (s .rank ≤ 6) ⌝ }
+    requires { ⌜ ReachedLists kind (now image) s ⌝ }
     ensures { λ r. ⌜ Reached kind (now (image .entry)) r ⌝ }
 {
     if kind == 1 {
@@ -382,7 +386,8 @@ pub fn frame(image: &[u8], kind: u32) -> FrameAnswer
 
 // The set of an image whose tasks are framed: its n tasks in the first n slots, the others zero.
 pub fn read_set(image: &[u8], n: usize) -> TaskSet
-    requires { ⌜ (n ≤ 16) × (tasks-offset n ≤ length (now image)) ⌝ }
+    requires few { ⌜ n ≤ 16 ⌝ }
+    requires inside { ⌜ tasks-offset n ≤ length (now image) ⌝ }
     ensures { λ r. ⌜ r ≡ set-read n (now (image .entry)) ⌝ }
 {
     let mut tasks = [Task {

@@ -1,30 +1,44 @@
--- What whoever calls the C face can rely on, from the contracts alone: what was lent decides the result, and every lent number and byte afterwards.
+-- What whoever calls the C face can rely on, from the contracts alone: what was lent decides the result, and every lent number and byte afterwards; and
+-- the demands, function by function, of every result. A lent slice of bytes has `Bytes`. Where a proof takes more than a line it stands elsewhere.
 -- Assumes nothing.
-use mathlib.Core.Path.{_≡_, sym, _∙_, ap}
-use mathlib.Core.List.{List, [], _∷_}
-use Prim.Native.Nat.{ℕ, zero, suc, _+_, _*_, _/_, _%_, _<_}
-use lib.ListN.{length}
+use mathlib.Core.Path.{_≡_, refl, sym, _∙_, ap}
+use mathlib.Core.Logic.{_↔_, _⊎_, Iff·trans}
+use mathlib.Core.List.{List, [], _∷_, _++_}
+use mathlib.Core.Option.{none, some}
+use Prim.Native.Nat.{ℕ, suc, _+_, _*_, _/_, _%_, _≤_, _<_}
+use native.Mathlib.Omega.{arith}
+use lib.ListN.{length, take, drop, replicate}
 use Rattle.fields.specs.Number.{Bytes}
 use Rattle.rules.specs.declared.Task.{Task}
 use Rattle.rules.specs.declared.Entry.{Entry}
-use Rattle.rules.specs.declared.Start.{Start as StartOf}
-use Rattle.rules.specs.declared.StartAnswer.{StartAnswer}
-use Rattle.rules.specs.declared.StartAnswer.the-variants as start-case
+use Rattle.rules.specs.declared.Figures.{Figures}
+use Rattle.rules.specs.declared.Refusal.{Refusal}
 use Rattle.rules.specs.declared.CheckAnswer.{CheckAnswer}
 use Rattle.rules.specs.declared.MakeAnswer.{MakeAnswer}
 use Rattle.rules.specs.declared.Turn.{Turn}
-use Rattle.rules.specs.Refusals.{Told, start-tells}
-use Rattle.rules.specs.Tasks.{hyperperiod}
+use Rattle.rules.specs.Refusals.{gives, refusal, First, Told}
+use Rattle.rules.specs.Tasks.{task, release, due, all-jobs, hyperperiod, memory-tests, judge-set}
 use Rattle.rules.specs.Timetable.{entry-at, job-at}
-use Rattle.rules.specs.Dispatcher.{numbers}
-use Rattle.rules.specs.Calls.{call, all-calls, last-call}
-use Rattle.rules.specs.Calls as calls
-use Rattle.rules.specs.Promised.{TableImage}
+use Rattle.rules.specs.Priority.{slot}
+use Rattle.rules.specs.Operations.{read-timetable}
+use Rattle.rules.specs.Dispatcher.{number-count}
+use Rattle.rules.specs.GoingOn.{going-tests}
+use Rattle.rules.specs.Calls.{all-starts}
+use Rattle.rules.specs.Promised.{TimetableImage, TableImage, RefusesTimetableImage, RefusesTableImage, BothImages, RefusesDeriving, RefusesRebuilding}
 use Rattle.rules.proofs.Promises as book
+use Rattle.numbers.specs.Numbers.{set-from, state-from}
+use Rattle.sets.specs.Sets.{GoodInMemory}
+use Rattle.sets.proofs.Promises as sets
 use Rattle.hervantyu.specs.Lent.{SetJudged, CheckTold, TimetableChecked, TablesChecked, Written, Derived, Rebuilt}
-use Rattle.hervantyu.specs.Lent.{start-or, TurnTold, Begun, GoneOn}
-use Rattle.hervantyu.specs.Runs.{Run, HonestBefore, HonestSince}
-use Rattle.hervantyu.proofs.ToldAnswers.{start-given}
+use Rattle.hervantyu.specs.Lent.{TurnTold, Begun, GoneOn}
+use Rattle.hervantyu.specs.Runs.{Honest, Log}
+use Rattle.hervantyu.proofs.Returned.{zero-exactly, zero-place, refusal-exactly}
+use Rattle.hervantyu.proofs.FaceSets as face-sets
+use Rattle.hervantyu.proofs.FaceImages as face-images
+use Rattle.hervantyu.proofs.FaceTurns as face-turns
+use Rattle.hervantyu.proofs.ServedCalls.{logged, goes-on, stays, ends, a-log, an-early-call}
+
+-- DEMAND 1, every function: what was lent decides the outcome
 
 -- two that are equal to a third are equal
 same : {A : Type 0} {x y third : A} → x ≡ third → y ≡ third → x ≡ y
@@ -93,52 +107,272 @@ pub one-go-on-outcome : (image old-state : List ℕ) (end : ℕ) {old-start s s�
     GoneOn image old-state end old-start r s d → GoneOn image old-state end old-start r′ s′ d′ → (r ≡ r′) × (s ≡ s′) × (d ≡ d′)
 one-go-on-outcome image old-state end = one-turn-outcome
 
--- a run of `hv_begin` and `hv_go_on`
-module _ {image : List ℕ} {ends returned : ℕ → ℕ} {starts states : ℕ → List ℕ} (run : Run image ends returned starts states) where
-  -- its calls tell what those of the rule book answer
-  pub as-called : (k : ℕ) → TurnTold (call image ends k) (run .old-starts k) (returned k) (starts k) (states k)
-  as-called zero = run .begins .turn-told
-  as-called (suc k) = rw (← as-called k .its-state) (run .goes-on k)
+-- DEMAND 1, hv_judge_set
 
-  -- DEMAND 3, of a run on a table image that is accepted, with the set and the one timetable behind it
-  module _ (are-bytes : Bytes image) (ts : List Task) (τ : List Entry) (accepted : TableImage image ts τ) where
-    -- a start that the rule book answers is told
-    start-told : (k : ℕ) (s : StartOf) → call image ends k .answer ≡ start-case.Start s →
-        (returned k ≡ 0) × (starts k ≡ s .task ∷ s .job ∷ s .cycle ∷ s .time ∷ [])
-    start-told k s e = (
-      as-called k .told .its-number ∙ ap (λ (a : StartAnswer). start-tells a .number) e,
-      as-called k .told .its-start ∙ ap (λ (a : StartAnswer). start-or a (run .old-starts k)) e,
-    )
+module _ {n : ℕ} {numbers : List ℕ} {old-hyperperiod old-jobs r p h j : ℕ} (judged : SetJudged n numbers old-hyperperiod old-jobs r p h j) where
+  -- returns 0, and leaves these figures, exactly where the set is good and they are its figures
+  pub set-accepted-exactly : (f : Figures) → ((r ≡ 0) × (h ≡ f .hyperperiod) × (j ≡ f .jobs)) ↔ GoodInMemory (set-from n numbers 0) f
+  set-accepted-exactly = face-sets.good-exactly judged
 
-    -- so ends that were honest before a call are honest there
-    honest-there : (k : ℕ) → HonestBefore ts returned starts ends k → calls.HonestBefore ts image ends k
-    honest-there k honest j l s e = let t = start-told j s e in rw (t .1) at (honest j l (t .0))
+  -- with 0 the place is 0
+  pub set-accepted-place : r ≡ 0 → p ≡ 0
+  set-accepted-place = zero-place (face-sets.returned-set judged)
 
-    -- and since the last call too
-    honest-after : (k : ℕ) → HonestSince ts returned starts ends k → calls.HonestSince ts image ends k
-    honest-after k honest m s e = let t = start-told k s e in rw (t .1) at (honest m (t .0))
+  -- returns another number and leaves a place exactly where the first test in the document's order refuses with them
+  pub set-refused-exactly : (q : Refusal) → ((1 ≤ r) × (refusal r p ≡ q)) ↔ First (memory-tests (set-from n numbers 0)) (some q)
+  set-refused-exactly q = Iff·trans (refusal-exactly (face-sets.returned-set judged) q) (sets.refused-exactly (set-from n numbers 0) (judge-set (set-from n numbers 0)) refl q)
 
-    -- call k returns 0 and tells the next entry, moved by whole hyperperiods: k mod length of cycle k / length
-    pub serves : (k : ℕ) → HonestBefore ts returned starts ends k → k < all-calls τ →
-        (returned k ≡ 0)
-        × (starts k
-        ≡ entry-at τ (k % length τ) .task
-        ∷ job-at τ (k % length τ)
-        ∷ (k / length τ)
-        ∷ (k / length τ * hyperperiod ts + entry-at τ (k % length τ) .start)
-        ∷ [])
-    serves k honest l =
-        let told = book.serves image are-bytes ts τ accepted ends k (honest-there k honest) l in (
-          as-called k .told .its-number ∙ ap (λ (t : Told). t .number) told,
-          as-called k .told .its-start ∙ start-given (call image ends k .answer) _ _ _ told,
-        )
+  -- returns 0, or 5 to 9
+  pub set-returns : (r ≡ 0) ⊎ ((5 ≤ r) × (r ≤ 9))
+  set-returns = face-sets.set-numbers judged
 
-    -- after the last, every call whose end is honest for the last job returns 24 and leaves the same numbers, however often
-    pub after-the-last : HonestBefore ts returned starts ends (last-call τ) → HonestSince ts returned starts ends (last-call τ) → (m : ℕ) →
-        (returned (last-call τ + suc m) ≡ 24) × (states (last-call τ + suc m) ≡ states (last-call τ))
-    after-the-last honest since m =
-        let k = last-call τ in
-        let again = book.after-the-last image are-bytes ts τ accepted ends (honest-there k honest) (honest-after k since) m in (
-          as-called (k + suc m) .told .its-number ∙ ap (λ (t : Turn). start-tells (t .answer) .number) again,
-          as-called (k + suc m) .its-numbers ∙ ap (λ (t : Turn). numbers (t .state)) again ∙ sym (as-called k .its-numbers),
-        )
+  -- a refusal leaves the hyperperiod and the jobs as they were
+  pub set-refused-keeps : 1 ≤ r → (h ≡ old-hyperperiod) × (j ≡ old-jobs)
+  set-refused-keeps = face-sets.set-keeps judged
+
+-- DEMANDS 1 AND 2, hv_check_timetable
+
+module _ (image : List ℕ) {r p : ℕ} (checked : TimetableChecked image r p) where
+  -- returns 0 exactly where the bytes are the image of a good set and a valid timetable
+  pub timetable-accepted-exactly : Bytes image → (r ≡ 0) ↔ ((ts : List Task) × (τ : List Entry) × TimetableImage image ts τ)
+  timetable-accepted-exactly b = Iff·trans (zero-exactly (face-images.returned-timetable image checked)) (book.accepted-timetables image b)
+
+  -- with 0 the place is 0
+  pub timetable-accepted-place : r ≡ 0 → p ≡ 0
+  timetable-accepted-place = zero-place (face-images.returned-timetable image checked)
+
+  -- returns another number and leaves a place exactly where the document's order comes to them first
+  pub timetable-refused-exactly : (q : Refusal) → ((1 ≤ r) × (refusal r p ≡ q)) ↔ RefusesTimetableImage image q
+  timetable-refused-exactly q = Iff·trans (refusal-exactly (face-images.returned-timetable image checked) q) (book.timetable-order image q)
+
+  -- returns 0 to 16
+  pub timetable-returns : r ≤ 16
+  timetable-returns = face-images.timetable-numbers image checked
+
+-- DEMANDS 1 AND 2, hv_check_tables
+
+module _ (image : List ℕ) {r p : ℕ} (checked : TablesChecked image r p) where
+  -- returns 0 exactly where some valid timetable of a good set has those tables
+  pub tables-accepted-exactly : Bytes image → (r ≡ 0) ↔ ((ts : List Task) × (τ : List Entry) × TableImage image ts τ)
+  tables-accepted-exactly b = Iff·trans (zero-exactly (face-images.returned-tables image checked)) (book.accepted-tables image b)
+
+  -- with 0 the place is 0
+  pub tables-accepted-place : r ≡ 0 → p ≡ 0
+  tables-accepted-place = zero-place (face-images.returned-tables image checked)
+
+  -- returns another number and leaves a place exactly where the document's order comes to them first
+  pub tables-refused-exactly : (q : Refusal) → ((1 ≤ r) × (refusal r p ≡ q)) ↔ RefusesTableImage image q
+  tables-refused-exactly q = Iff·trans (refusal-exactly (face-images.returned-tables image checked) q) (book.table-order image q)
+
+  -- returns 0 to 10, or 17 to 19
+  pub tables-returns : (r ≤ 10) ⊎ ((17 ≤ r) × (r ≤ 19))
+  tables-returns = face-images.tables-numbers image checked
+
+-- that set and that timetable are the only ones
+pub only-one-timetable : {image : List ℕ} {ts us : List Task} {τ σ : List Entry} → TableImage image ts τ → TableImage image us σ → (ts ≡ us) × (τ ≡ σ)
+only-one-timetable = book.only-one-timetable
+
+-- DEMANDS 1 AND 2, hv_derive
+
+module _ (image old : List ℕ) {old-length r p l : ℕ} {out : List ℕ} (derived : Derived image old old-length r p l out) where
+  -- returns 0 exactly where the bytes are a timetable's image and the output has room for that of its tables
+  pub derive-accepted-exactly : Bytes image → (r ≡ 0) ↔ ((result : List ℕ) × BothImages image result × (length result ≤ length old))
+  derive-accepted-exactly = face-images.derive-zero image old derived
+
+  -- with 0 the place is 0, the length is that of the tables' image, it fills the front of the output, and later bytes keep their values
+  pub derive-writes-exactly : r ≡ 0 → {result : List ℕ} → BothImages image result →
+      (p ≡ 0) × (l ≡ length result) × (out ≡ result ++ drop (length result) old)
+  derive-writes-exactly e both =
+      let w = face-images.derive-fits image old derived both (face-images.derive-room image old derived e both) in (w .1, w .2, w .3)
+
+  -- returns another number and leaves a place exactly where the document's order comes to them first, with 20 the last
+  pub derive-refused-exactly : Bytes image → (q : Refusal) → ((1 ≤ r) × (refusal r p ≡ q)) ↔ RefusesDeriving image (length old) q
+  derive-refused-exactly b q = Iff·trans (refusal-exactly (face-images.returned-derive image old derived) q) (book.derive-order image old b q)
+
+  -- returns 0 to 16, or 20
+  pub derive-returns : (r ≤ 16) ⊎ (r ≡ 20)
+  derive-returns = face-images.derive-numbers image old derived
+
+  -- a refusal leaves the length and every byte of the output as they were
+  pub derive-refused-keeps : 1 ≤ r → (l ≡ old-length) × (out ≡ old)
+  derive-refused-keeps = face-images.derive-keeps image old derived
+
+-- DEMANDS 1 AND 2, hv_rebuild
+
+module _ (image old : List ℕ) {old-length r p l : ℕ} {out : List ℕ} (rebuilt : Rebuilt image old old-length r p l out) where
+  -- returns 0 exactly where the bytes are the image of a timetable's tables and the output has room for the timetable's own
+  pub rebuild-accepted-exactly : Bytes image → (r ≡ 0) ↔ ((result : List ℕ) × BothImages result image × (length result ≤ length old))
+  rebuild-accepted-exactly = face-images.rebuild-zero image old rebuilt
+
+  -- with 0 the place is 0, the length is that of the timetable's image, it fills the front of the output, and later bytes keep their values
+  pub rebuild-writes-exactly : r ≡ 0 → {result : List ℕ} → BothImages result image →
+      (p ≡ 0) × (l ≡ length result) × (out ≡ result ++ drop (length result) old)
+  rebuild-writes-exactly e both =
+      let w = face-images.rebuild-fits image old rebuilt both (face-images.rebuild-room image old rebuilt e both) in (w .1, w .2, w .3)
+
+  -- returns another number and leaves a place exactly where the document's order comes to them first, with 20 the last
+  pub rebuild-refused-exactly : Bytes image → (q : Refusal) → ((1 ≤ r) × (refusal r p ≡ q)) ↔ RefusesRebuilding image (length old) q
+  rebuild-refused-exactly b q = Iff·trans (refusal-exactly (face-images.returned-rebuild image old rebuilt) q) (book.rebuild-order image old b q)
+
+  -- returns 0 to 10, or 17 to 20
+  pub rebuild-returns : (r ≤ 10) ⊎ ((17 ≤ r) × (r ≤ 20))
+  rebuild-returns = face-images.rebuild-numbers image old rebuilt
+
+  -- a refusal leaves the length and every byte of the output as they were
+  pub rebuild-refused-keeps : 1 ≤ r → (l ≡ old-length) × (out ≡ old)
+  rebuild-refused-keeps = face-images.rebuild-keeps image old rebuilt
+
+-- DEMAND 2, hv_derive and hv_rebuild: what each wrote is accepted
+
+pub derived-accepted : (image old : List ℕ) {old-length p l : ℕ} {out : List ℕ} → Bytes image → Derived image old old-length 0 p l out →
+    {r′ p′ : ℕ} → TablesChecked (take l out) r′ p′ → (r′ ≡ 0) × (p′ ≡ 0)
+derived-accepted = face-images.derived-accepted
+
+pub rebuilt-accepted : (image old : List ℕ) {old-length p l : ℕ} {out : List ℕ} → Bytes image → Rebuilt image old old-length 0 p l out →
+    {r′ p′ : ℕ} → TimetableChecked (take l out) r′ p′ → (r′ ≡ 0) × (p′ ≡ 0)
+rebuilt-accepted = face-images.rebuilt-accepted
+
+-- DEMAND 2, hv_derive and hv_rebuild: what the one wrote the other turns back into the very bytes that the one was lent
+
+pub rebuild-after-derive : (image old : List ℕ) {old-length p l : ℕ} {out : List ℕ} → Bytes image → Derived image old old-length 0 p l out →
+    (other : List ℕ) {other-length r′ p′ l′ : ℕ} {out′ : List ℕ} → Rebuilt (take l out) other other-length r′ p′ l′ out′ → length image ≤ length other →
+    (r′ ≡ 0) × (p′ ≡ 0) × (l′ ≡ length image) × (out′ ≡ image ++ drop (length image) other)
+rebuild-after-derive = face-images.there-and-back
+
+pub derive-after-rebuild : (image old : List ℕ) {old-length p l : ℕ} {out : List ℕ} → Bytes image → Rebuilt image old old-length 0 p l out →
+    (other : List ℕ) {other-length r′ p′ l′ : ℕ} {out′ : List ℕ} → Derived (take l out) other other-length r′ p′ l′ out′ → length image ≤ length other →
+    (r′ ≡ 0) × (p′ ≡ 0) × (l′ ≡ length image) × (out′ ≡ image ++ drop (length image) other)
+derive-after-rebuild = face-images.back-and-there
+
+-- DEMAND 1, hv_begin
+
+module _ {image old-start : List ℕ} {r p : ℕ} {start state : List ℕ} (begun : Begun image old-start r p start state) where
+  -- returns, and leaves in the place, what `hv_check_tables` does
+  pub begin-returns-as-checking : Bytes image → TablesChecked image r p
+  begin-returns-as-checking = face-turns.begin-checks begun
+
+  -- so it returns 0 exactly where some valid timetable of a good set has those tables
+  pub begin-accepted-exactly : Bytes image → (r ≡ 0) ↔ ((ts : List Task) × (τ : List Entry) × TableImage image ts τ)
+  begin-accepted-exactly b = tables-accepted-exactly image (begin-returns-as-checking b) b
+
+  -- with 0 the place is 0
+  pub begin-accepted-place : Bytes image → r ≡ 0 → p ≡ 0
+  begin-accepted-place b = tables-accepted-place image (begin-returns-as-checking b)
+
+  -- returns another number and leaves a place exactly where the document's order comes to them first
+  pub begin-refused-exactly : Bytes image → (q : Refusal) → ((1 ≤ r) × (refusal r p ≡ q)) ↔ RefusesTableImage image q
+  begin-refused-exactly b = tables-refused-exactly image (begin-returns-as-checking b)
+
+  -- returns 0 to 10, or 17 to 19
+  pub begin-returns : Bytes image → (r ≤ 10) ⊎ ((17 ≤ r) × (r ≤ 19))
+  begin-returns b = tables-returns image (begin-returns-as-checking b)
+
+  -- a refusal leaves the start as it was, and all numbers of the record 0
+  pub begin-refused-leaves : 1 ≤ r → (start ≡ old-start) × (state ≡ replicate number-count 0)
+  begin-refused-leaves = face-turns.begin-leaves begun
+
+-- DEMAND 1, hv_go_on
+
+module _ (image old-state : List ℕ) (end : ℕ) {old-start start state : List ℕ} {r : ℕ}
+    (gone-on : GoneOn image old-state end old-start r start state) where
+  -- returns 0 exactly where no test refuses
+  pub go-on-accepted-exactly : (r ≡ 0) ↔ First (going-tests image (state-from old-state) end) none
+  go-on-accepted-exactly = face-turns.go-on-passes image old-state end gone-on
+
+  -- returns another number exactly where it is that of the first of 23, 25, 21, 22, 24, 25 whose condition holds
+  pub go-on-refused-exactly : (q : Refusal) → ((1 ≤ r) × (refusal r 0 ≡ q)) ↔ First (going-tests image (state-from old-state) end) (some q)
+  go-on-refused-exactly = face-turns.go-on-refuses image old-state end gone-on
+
+  -- returns 0, or 21 to 25
+  pub go-on-returns : (r ≡ 0) ⊎ ((21 ≤ r) × (r ≤ 25))
+  go-on-returns = face-turns.go-on-numbers image old-state end gone-on
+
+  -- a refusal leaves the start as it was
+  pub go-on-refused-keeps : 1 ≤ r → start ≡ old-start
+  go-on-refused-keeps = face-turns.go-on-keeps-start image old-state end gone-on
+
+  -- 21, 23 and 24 leave every number of the record as it was
+  pub go-on-keeps-the-record : length old-state ≡ number-count → (r ≡ 21) ⊎ ((r ≡ 23) ⊎ (r ≡ 24)) → state ≡ old-state
+  go-on-keeps-the-record = face-turns.go-on-keeps-state image old-state end gone-on
+
+  -- 22 and 25 leave all numbers of the record 0
+  pub go-on-stops-the-record : (r ≡ 22) ⊎ (r ≡ 25) → state ≡ replicate number-count 0
+  go-on-stops-the-record = face-turns.go-on-stops image old-state end gone-on
+
+-- DEMAND 3: an image is accepted where `hv_begin` returned 0 (`begin-accepted-exactly`), and its timetable is the one that `hv_rebuild` writes
+-- (`rebuild-writes-exactly`): the set and the timetable that are read from what it wrote are the ones behind the image, and there are no others
+
+pub reads-exactly : (image old : List ℕ) {old-length p l : ℕ} {out : List ℕ} → Bytes image → Rebuilt image old old-length 0 p l out →
+    (ts : List Task) (τ : List Entry) → (read-timetable (take l out) ≡ gives (record { tasks = ts; entries = τ })) ↔ TableImage image ts τ
+reads-exactly = face-images.reads-exactly
+
+-- DEMAND 3, of every log of `hv_begin` and `hv_go_on` on such an image, with the set and the timetable behind it
+
+module _ (image : List ℕ) (are-bytes : Bytes image) (ts : List Task) (τ : List Entry) (accepted : TableImage image ts τ) where
+  -- the timetable has as many entries as a cycle has jobs, and at least one
+  pub entries-are-jobs : (length τ ≡ all-jobs (hyperperiod ts) ts) × (1 ≤ length τ)
+  entries-are-jobs = book.entries-are-jobs image are-bytes ts τ accepted
+
+  -- never stuck: `hv_begin` returned 0, and `hv_go_on` returns 0 for every honest end until all jobs of the last cycle have started
+  pub begins : {number place : ℕ} {old-start start state : List ℕ} → Begun image old-start number place start state → number ≡ 0
+  begins g = begin-accepted-exactly g are-bytes .1 (ts, τ, accepted)
+
+  pub never-stuck : {k number : ℕ} {start state old-start start′ state′ : List ℕ} → Log image ts k start state → suc k < all-starts τ → (end : ℕ) →
+      Honest ts start end → GoneOn image state end old-start number start′ state′ → number ≡ 0
+  never-stuck log lt end honest g = goes-on image are-bytes ts τ accepted lt (logged image are-bytes ts τ accepted log (omega arith)) end honest g .0
+
+  -- the start told after k honest ends is the next entry, moved by whole hyperperiods: k mod length of cycle k / length
+  pub serves : {k : ℕ} {start state : List ℕ} → Log image ts k start state → k < all-starts τ →
+      start
+      ≡ entry-at τ (k % length τ) .task
+      ∷ job-at τ (k % length τ)
+      ∷ (k / length τ)
+      ∷ (k / length τ * hyperperiod ts + entry-at τ (k % length τ) .start)
+      ∷ []
+  serves log lt =
+      let b = logged image are-bytes ts τ accepted log lt in
+      b .its-start ∙ ap (λ (t : Told). t .values) (book.serves image are-bytes ts τ accepted (b .log) lt)
+
+  -- it is released
+  pub released : {k : ℕ} {start state : List ℕ} → Log image ts k start state → k < all-starts τ →
+      slot start 2 * hyperperiod ts + release (task ts (slot start 0)) (slot start 1) ≤ slot start 3
+  released log lt =
+      let b = logged image are-bytes ts τ accepted log lt in rw (b .its-start) (book.released image are-bytes ts τ accepted (b .log) lt)
+
+  -- and inside its deadline
+  pub in-time : {k : ℕ} {start state : List ℕ} → Log image ts k start state → k < all-starts τ →
+      slot start 3 + task ts (slot start 0) .time ≤ slot start 2 * hyperperiod ts + due (task ts (slot start 0)) (slot start 1)
+  in-time log lt =
+      let b = logged image are-bytes ts τ accepted log lt in rw (b .its-start) (book.in-time image are-bytes ts τ accepted (b .log) lt)
+
+  -- it is alone on the processor: not before the previous start + C, also across cycles
+  pub alone : {k : ℕ} {start state start′ state′ : List ℕ} → Log image ts k start state → Log image ts (suc k) start′ state′ → suc k < all-starts τ →
+      slot start 3 + task ts (slot start 0) .time ≤ slot start′ 3
+  alone log log′ lt =
+      let b = logged image are-bytes ts τ accepted log (omega arith) in
+      let b′ = logged image are-bytes ts τ accepted log′ lt in
+      rw (b .its-start, b′ .its-start) (book.alone image are-bytes ts τ accepted (b .log) (b′ .log) lt)
+
+  -- the starts don't depend on the reported ends
+  pub starts-do-not-depend-on-ends : {k : ℕ} {start state start′ state′ : List ℕ} → Log image ts k start state → Log image ts k start′ state′ →
+      k < all-starts τ → start ≡ start′
+  starts-do-not-depend-on-ends log log′ lt = same (serves log lt) (serves log′ lt)
+
+  -- an end before the start returns 21 and leaves the start and the state's numbers as they were, so that the call can be made again
+  pub too-early-refused : {k number : ℕ} {start state old-start start′ state′ : List ℕ} → Log image ts k start state → k < all-starts τ → (end : ℕ) →
+      end < slot start 3 → GoneOn image state end old-start number start′ state′ → (number ≡ 21) × (start′ ≡ old-start) × (state′ ≡ state)
+  too-early-refused log lt = stays image are-bytes ts τ accepted lt (logged image are-bytes ts τ accepted log lt)
+
+  -- after the last start of the last cycle an honest end returns 24 and leaves them as they were, so that it does so however often
+  pub after-the-last : {k number : ℕ} {start state old-start start′ state′ : List ℕ} → Log image ts k start state → suc k ≡ all-starts τ → (end : ℕ) →
+      Honest ts start end → GoneOn image state end old-start number start′ state′ → (number ≡ 24) × (start′ ≡ old-start) × (state′ ≡ state)
+  after-the-last log last = ends image are-bytes ts τ accepted last (logged image are-bytes ts τ accepted log (omega arith))
+
+  -- not vacuous: there is a log for every start
+  pub logs-exist : (k : ℕ) → k < all-starts τ → (start : List ℕ) × (state : List ℕ) × Log image ts k start state
+  logs-exist = a-log image are-bytes ts τ accepted
+
+  -- and after all but the first one a call that reports the end 0 is such a call, refused with 21
+  pub early-calls-exist : {k : ℕ} {start state : List ℕ} → Log image ts (suc k) start state → suc k < all-starts τ → (old-start : List ℕ) →
+      (0 < slot start 3) × GoneOn image state 0 old-start 21 old-start state
+  early-calls-exist = an-early-call image are-bytes ts τ accepted

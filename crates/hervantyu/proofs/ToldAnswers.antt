@@ -1,20 +1,19 @@
 -- What an answer tells, whatever it is of: the number, the place, and what each lent number holds afterwards. Assumes nothing.
 use mathlib.Core.Path.{_≡_, refl, sym, ap, subst}
-use mathlib.Core.List.{List, [], _∷_}
+use mathlib.Core.List.{List}
 use Prim.Native.Nat.{ℕ, zero, suc, _≤_}
 use native.Mathlib.Omega.{arith}
 use Rattle.rules.specs.declared.Refusal.{Refusal}
 use Rattle.rules.specs.declared.StartAnswer.{StartAnswer}
-use Rattle.rules.specs.declared.StartAnswer.the-variants as start-case
 use Rattle.rules.specs.declared.CheckAnswer.{CheckAnswer}
 use Rattle.rules.specs.declared.MakeAnswer.{MakeAnswer}
 use Rattle.rules.specs.declared.Turn.{Turn}
 use Rattle.rules.specs.Dispatcher.{numbers}
-use Rattle.rules.specs.Refusals.{Told, tells, tells-refusal, start-tells}
+use Rattle.rules.specs.Refusals.{Told, tells, tells-refusal}
 use Rattle.rules.specs.Priority.{slot}
 use Rattle.rules.proofs.Cases.{clash}
 use Rattle.numbers.specs.Numbers.{state-from}
-use Rattle.hervantyu.specs.Lent.{value-if, value-or, CheckTold, MakeTold, start-or, StartTold, TurnTold}
+use Rattle.hervantyu.specs.Lent.{value-if, value-or, CheckTold, MakeTold, StartTold, TurnTold}
 
 -- an answer with values: number and place are 0, and a lent number holds its value
 module _ (t : Told) (values : List ℕ) (e : t ≡ tells values) where
@@ -28,7 +27,7 @@ module _ (t : Told) (values : List ℕ) (e : t ≡ tells values) where
   value-given i old = sym (ap (λ (a : Told). value-or a i old) e)
 
 -- a number that is not 0 leaves what was lent as it was
-kept-by : (number : ℕ) (t : Told) (i old : ℕ) → 1 ≤ number → old ≡ value-if number t i old
+pub kept-by : (number : ℕ) (t : Told) (i old : ℕ) → 1 ≤ number → old ≡ value-if number t i old
 kept-by zero t i old h = clash (omega arith)
 kept-by (suc number) t i old h = refl
 
@@ -58,8 +57,3 @@ pub turn-told : {a b : Turn} {old start state : List ℕ} {number : ℕ} → a �
     (state ≡ numbers (a .state)) × (state-from state ≡ a .state) → TurnTold b old number start state
 turn-told {old = old} {start = start} {state = state} {number = number} e told is =
     subst (λ (t : Turn). TurnTold t old number start state) e (record { told = told; its-numbers = is .0; its-state = is .1 })
-
--- values that an answer tells are those in the start
-pub start-given : (a : StartAnswer) (value : ℕ) (values old : List ℕ) → start-tells a ≡ tells (value ∷ values) → start-or a old ≡ value ∷ values
-start-given (start-case.Start s) value values old e = ap (λ (t : Told). t .values) e
-start-given (start-case.Refused r) value values old e = let none : [] ≡ value ∷ values = ap (λ (t : Told). t .values) e in clash (cc)

@@ -1,6 +1,5 @@
--- A run of the dispatcher as a C program sees it: `hv_begin`, then calls of `hv_go_on`, each lent the numbers that the call before left.
+-- Logs of calls as a C program makes them: `hv_begin`, then `hv_go_on`, each lent the same image and the state's numbers as the call before left them.
 -- Assumes nothing.
-use mathlib.Core.Path.{_≡_}
 use mathlib.Core.List.{List}
 use Prim.Native.Nat.{ℕ, suc, _+_, _≤_, _<_}
 use Rattle.rules.specs.declared.Task.{Task}
@@ -8,21 +7,15 @@ use Rattle.rules.specs.Tasks.{task}
 use Rattle.rules.specs.Priority.{slot}
 use Rattle.hervantyu.specs.Lent.{Begun, GoneOn}
 
--- what each call returned, and left in the start and in the state's numbers; the start may be lent with any numbers in it
-pub record Run (image : List ℕ) (ends returned : ℕ → ℕ) (starts states : ℕ → List ℕ) : Type 0 where
-  pub old-starts : ℕ → List ℕ
-  pub place : ℕ
-  pub begins : Begun image (old-starts 0) (returned 0) place (starts 0) (states 0)
-  pub goes-on : (k : ℕ) → GoneOn image (states k) (ends k) (old-starts (suc k)) (returned (suc k)) (starts (suc k)) (states (suc k))
-
--- an end that lies from a start's absolute time to that time plus C
+-- a reported end that lies from a start's absolute time to that time plus C
 abbrev pub Honest : List Task → List ℕ → ℕ → Type 0
 Honest ts start end = (slot start 3 ≤ end) × (end ≤ slot start 3 + task ts (slot start 0) .time)
 
--- every end reported before call k is honest for the start that the call before told
-abbrev pub HonestBefore : List Task → (ℕ → ℕ) → (ℕ → List ℕ) → (ℕ → ℕ) → ℕ → Type 0
-HonestBefore ts returned starts ends k = (j : ℕ) → j < k → returned j ≡ 0 → Honest ts (starts j) (ends j)
-
--- every end reported from call k on is honest for the start that call k told
-abbrev pub HonestSince : List Task → (ℕ → ℕ) → (ℕ → List ℕ) → (ℕ → ℕ) → ℕ → Type 0
-HonestSince ts returned starts ends k = (m : ℕ) → returned k ≡ 0 → Honest ts (starts k) (ends (k + m))
+-- the calls so far, whatever they returned: how many reported an honest end, what the last of these (or `hv_begin`) left in the start, and what the last
+-- call left in the state; a call that reports an end before the running job's start is made again
+pub data Log (image : List ℕ) (ts : List Task) : ℕ → List ℕ → List ℕ → Type 0 where
+  begun : {old-start start state : List ℕ} {number place : ℕ} → Begun image old-start number place start state → Log image ts 0 start state
+  went-on : {start state old-start start′ state′ : List ℕ} {k number : ℕ} → Log image ts k start state → (end : ℕ) → Honest ts start end →
+      GoneOn image state end old-start number start′ state′ → Log image ts (suc k) start′ state′
+  too-early : {start state old-start start′ state′ : List ℕ} {k number : ℕ} → Log image ts k start state → (end : ℕ) → end < slot start 3 →
+      GoneOn image state end old-start number start′ state′ → Log image ts k start state′

@@ -107,7 +107,8 @@ pub fn body_of(k: usize) -> usize
 
 // The place in the table of the mark that two bytes are, 6 where they are none.
 pub fn mark(a: u8, b: u8) -> usize
-    ensures { λ r. ⌜ (r ≤ 6) × (found-at r ≡ book-marks.mark-in book-marks.marks a b) ⌝ }
+    ensures row { λ r. ⌜ r ≤ 6 ⌝ }
+    ensures found { λ r. ⌜ found-at r ≡ book-marks.mark-in book-marks.marks a b ⌝ }
 {
     let mut k: usize = 0;
     while k < 6 {

@@ -105,7 +105,7 @@ module _ {bytes old : List ℕ} {s : TaskSet} {jobs : List ℕ} {starts place at
 
       -- its task has a slot
       a-task : x .task < length ts
-      a-task = rw is-entry (timetable .valid .task-numbers starts a-start)
+      a-task = rw is-entry (timetable .valid .tasks-below-n starts a-start)
 
       pub a-slot : x .task < limits .tasks
       a-slot = omega (arith, a-task, timetable .good .few-tasks)

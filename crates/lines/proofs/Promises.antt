@@ -1,9 +1,12 @@
--- What whoever reads the program's text can rely on, from the contract of `list`: one text; the listing of the very timetable behind the tables, or the
--- table image's refusal; and P2's listing is the document's. Assumes nothing.
+-- What whoever reads the program's text can rely on, from the contract of `list`: one text; for an input that is not too long, the listing of the very
+-- timetable behind the tables, or the table image's refusal; and P2's listing is the document's. Assumes nothing.
 use mathlib.Core.Path.{_≡_, refl, sym, _∙_, ap}
 use mathlib.Core.List.{List, [], _∷_}
-use Prim.Native.Nat.{ℕ}
-use lib.ListN.{length}
+use Prim.Native.Nat.{ℕ, suc, _≤_, _<_}
+use native.Mathlib.Omega.{arith}
+use lib.ListN.{length, take}
+use lib.Seq.{length-take-le, take-all}
+use borrow.Author.Tests.{le-leb, lt-leb}
 use Rattle.rules.specs.declared.Task.{Task}
 use Rattle.rules.specs.declared.Entry.{Entry}
 use Rattle.rules.specs.declared.Refusal.{Refusal}
@@ -15,7 +18,7 @@ use Rattle.rules.specs.Promised.{TableImage}
 use Rattle.rules.specs.Worked.{P2-bytes}
 use Rattle.rules.proofs.Cases.{clash, by-le}
 use Rattle.rules.proofs.Demand2.{rebuilds}
-use Rattle.lines.specs.Text.{decimal, line, ok-line, listing-of, refused-text, text-of, listing}
+use Rattle.lines.specs.Text.{decimal, line, ok-line, listing-of, refused-text, text-of, listing, longest-input, too-long, program-text}
 use Rattle.lines.specs.Lists.{AtFront, room, Listed}
 
 -- a text at the front of an output leaves one answer and one output
@@ -42,6 +45,31 @@ checked-refused (refuses q) r e = let same : q ≡ r = cc in ap refuses same
 pub refused-listing : (bytes : List ℕ) (r : Refusal) → check-tables bytes ≡ Refused r → listing bytes ≡ refused-text r
 unfolding check-tables listing
 refused-listing bytes r e = ap text-of (checked-refused (rebuilt bytes) r e)
+
+-- an input of at most 65,536 bytes is listed
+pub judged-input : (input : List ℕ) → length input ≤ longest-input → program-text input ≡ listing input
+unfolding program-text
+judged-input input l = simp (le-leb _ _ l)
+
+-- any longer one is refused, whatever it is
+pub refused-input : (input : List ℕ) → longest-input < length input → program-text input ≡ refused-text too-long
+unfolding program-text
+refused-input input l = simp (lt-leb _ _ l)
+
+-- the first 65,537 bytes of an input decide what is written: no more of it has to be read
+pub first-bytes-decide : (input : List ℕ) → program-text (take (suc longest-input) input) ≡ program-text input
+first-bytes-decide input =
+    by-le (suc longest-input) (length input)
+    (λ l.
+    refused-input (take (suc longest-input) input) (omega (arith, length-take-le (suc longest-input) input l))
+    ∙ sym (refused-input input (omega arith)))
+    (λ l. ap program-text (take-all (suc longest-input) input (omega arith)))
+
+-- the document's "refused 20 0"
+pub too-long-line : refused-text too-long
+    ≡ (0x72 ∷ 0x65 ∷ 0x66 ∷ 0x75 ∷ 0x73 ∷ 0x65 ∷ 0x64 ∷ 0x20 ∷ 0x32 ∷ 0x30 ∷ 0x20 ∷ 0x30 ∷ 0x0A ∷ [])
+unfolding refused-text decimal
+too-long-line = refl
 
 -- the document's seven lines and "ok 7"
 pub p2-listing : listing P2-bytes

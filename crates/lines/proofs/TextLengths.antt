@@ -86,7 +86,7 @@ module _ {ts : List Task} {h : ℕ} {τ : List Entry} (good : GoodSet ts h) (val
   entry-line-short : (j : ℕ) → j < length τ → length (entry-line ts τ j) ≤ 20
   entry-line-short j l =
       line-short (entry-at τ j .task) (job-at τ j) (entry-at τ j .start) (end-at ts τ j)
-      (omega (arith, valid .task-numbers j l, good .few-tasks)) (omega (arith, job-low j l)) (omega (arith, end-low j l)) (omega (arith, end-low j l))
+      (omega (arith, valid .tasks-below-n j l, good .few-tasks)) (omega (arith, job-low j l)) (omega (arith, end-low j l)) (omega (arith, end-low j l))
 
   lines-short : (j : ℕ) → j ≤ length τ → length (entry-lines ts τ j) ≤ 20 * j
   lines-short zero l = omega arith

@@ -9,7 +9,7 @@ use Rattle.rules.specs.Tasks.{limits}
 use Rattle.rules.specs.Marks.{TS, TK, SL, EN, size}
 use Rattle.rules.specs.Promised.{TimetableImage}
 use Rattle.writing.specs.Writing.{put-at}
-use Rattle.lines.specs.Text.{listing-of, listing}
+use Rattle.lines.specs.Text.{listing-of, program-text}
 
 -- a text was put at a place of an output, and the place behind it is answered
 pub record PutAt (old : List ℕ) (at : ℕ) (text : List ℕ) (r : ℕ) (out : List ℕ) : Type 0 where
@@ -40,7 +40,7 @@ longest-image = size TS + limits .tasks * size TK + limits .jobs * size SL + siz
 abbrev pub room : ℕ
 room = limits .jobs * 20 + 8
 
--- an output that is too short keeps its bytes and 0 is answered; any other has the listing at its front
-pub record Listed (bytes old : List ℕ) (r : ℕ) (out : List ℕ) : Type 0 where
+-- an output that is too short keeps its bytes and 0 is answered; any other has the program's text at its front
+pub record Listed (input old : List ℕ) (r : ℕ) (out : List ℕ) : Type 0 where
   pub short : length old < room → (r ≡ 0) × (out ≡ old)
-  pub lists : room ≤ length old → AtFront (listing bytes) old r out
+  pub lists : room ≤ length old → AtFront (program-text input) old r out

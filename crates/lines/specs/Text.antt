@@ -1,12 +1,12 @@
 -- The text that the program writes: document 01, "A set to work by hand". Assumes nothing.
 use mathlib.Core.List.{List, [], _∷_, _++_}
 use Prim.Native.Nat.{ℕ, zero, suc, _+_, _/_, _%_}
-use lib.Dec.{ltb}
+use lib.Dec.{ltb, leb}
 use lib.ListN.{length}
 use Rattle.rules.specs.declared.Task.{Task}
 use Rattle.rules.specs.declared.Entry.{Entry}
 use Rattle.rules.specs.declared.Refusal.{Refusal}
-use Rattle.rules.specs.Refusals.{Judged, gives, refuses}
+use Rattle.rules.specs.Refusals.{Judged, gives, refuses, refusal}
 use Rattle.rules.specs.Timetable.{pick, entry-at, job-at, end-at}
 use Rattle.rules.specs.Operations.{Timed, rebuilt}
 
@@ -74,3 +74,15 @@ text-of (refuses r) = refused-text r
 -- the listing of any bytes as a table image: the timetable that is rebuilt, or the refusal
 unfoldable pub listing : List ℕ → List ℕ
 listing bytes = text-of (rebuilt bytes)
+
+-- the most bytes of an input that are judged
+abbrev pub longest-input : ℕ
+longest-input = 65536
+
+-- a longer input is refused with 20
+abbrev pub too-long : Refusal
+too-long = refusal 20 0
+
+-- what the program writes for its whole input: the listing, or the refusal of an input that is too long
+unfoldable pub program-text : List ℕ → List ℕ
+program-text input = pick (leb (length input) longest-input) (listing input) (refused-text too-long)

@@ -1,4 +1,4 @@
-// Lines: the text of a timetable's listing, and of a refusal.
+// Lines: the text of a timetable's listing, and of a refusal; and what the program writes for its whole input.
 use images::EN;
 use images::ROWS;
 use images::SL;
@@ -12,7 +12,7 @@ ghost use Prim.Native.Nat.{_+_, _≤_};
 ghost use lib.ListN.{length};
 ghost use Rattle.rules.specs.Marks as book-marks;
 ghost use Rattle.images.specs.Bodies.{part-of, head-of, entry-of};
-ghost use Rattle.lines.specs.Text.{number-then, line, ok-line, refused-text, listing};
+ghost use Rattle.lines.specs.Text.{number-then, line, ok-line, refused-text, too-long, listing};
 ghost use Rattle.lines.specs.Lists.{PutAt, AtFront, CanList, Lists, longest-image, room, Listed};
 
 // Bytes at a place; the place behind them is answered, as with each of the following.
@@ -61,13 +61,27 @@ fn put_ok(out: &mut [u8], at: usize, starts: u64) -> usize
 }
 
 // The line of a refusal at the front of an output: its number and its place.
-pub fn put_refused(out: &mut [u8], r: Refusal) -> usize
+fn put_refused(out: &mut [u8], r: Refusal) -> usize
     requires { ⌜ length (refused-text r) ≤ length (now out) ⌝ }
     ensures { λ n. ⌜ AtFront (refused-text r) (now (out .entry)) n (now (out .exit)) ⌝ }
 {
     let number = put_bytes(out, 0, b"refused ");
     let place = put_number(out, number, r.number as u64, b' ');
     put_number(out, place, r.place as u64, b'\n')
+}
+
+// The line for an input that is too long, at the front of an output.
+fn put_too_long(out: &mut [u8]) -> usize
+    requires { ⌜ length (refused-text too-long) ≤ length (now out) ⌝ }
+    ensures { λ n. ⌜ AtFront (refused-text too-long) (now (out .entry)) n (now (out .exit)) ⌝ }
+{
+    put_refused(
+        out,
+        Refusal {
+            number: 20,
+            place: 0,
+        },
+    )
 }
 
 // The number of tasks that an image's TS tells.
@@ -125,7 +139,8 @@ pub const ROOM: usize = 4096 * 20 + 8;
 
 // The listing of any bytes as a table image, by way of the timetable image that is rebuilt from it.
 fn list_rebuilt(image: &[u8], rebuilt: &mut [u8], out: &mut [u8]) -> usize
-    requires { ⌜ (length (now rebuilt) ≡ longest-image) × (room ≤ length (now out)) ⌝ }
+    requires long { ⌜ length (now rebuilt) ≡ longest-image ⌝ }
+    requires room { ⌜ room ≤ length (now out) ⌝ }
     ensures { λ r. ⌜ AtFront (listing (now (image .entry))) (now (out .entry)) r (now (out .exit)) ⌝ }
 {
     match rebuilding::rebuild(image, rebuilt) {
@@ -134,13 +149,20 @@ fn list_rebuilt(image: &[u8], rebuilt: &mut [u8], out: &mut [u8]) -> usize
     }
 }
 
-// The listing of any bytes as a table image at the front of an output that has room for every listing; nothing, and 0, where it has not.
-pub fn list(image: &[u8], out: &mut [u8]) -> usize
-    ensures { λ r. ⌜ Listed (now (image .entry)) (now (out .entry)) r (now (out .exit)) ⌝ }
+// The most bytes of an input that are judged.
+pub const LONGEST_INPUT: usize = 65536;
+
+// What the program writes for an input, at the front of an output that has room for every listing; nothing, and 0, where it has not.
+// Of an input that is too long the first LONGEST_INPUT + 1 bytes give the same as all of it.
+pub fn list(input: &[u8], out: &mut [u8]) -> usize
+    ensures { λ r. ⌜ Listed (now (input .entry)) (now (out .entry)) r (now (out .exit)) ⌝ }
 {
     if out.len() < ROOM {
         return 0;
     }
+    if input.len() > LONGEST_INPUT {
+        return put_too_long(out);
+    }
     let mut rebuilt = [0u8; LONGEST];
-    list_rebuilt(image, &mut rebuilt, out)
+    list_rebuilt(input, &mut rebuilt, out)
 }

@@ -1,41 +1,130 @@
 // Lists the table image on standard input: a line for each start of the timetable that is rebuilt from it, with task, job, start and end,
-// then a last line with the number of starts; or one line with the refusal. More than 65,536 bytes are refused with 20.
+// then a last line with the number of starts; or one line with the refusal (`lines::list`). A read or a write that fails is told on standard
+// error; after a read that failed nothing is listed.
+use libc::EINTR;
 use libc::STDIN_FILENO;
 use libc::STDOUT_FILENO;
+use lines::LONGEST_INPUT;
 use lines::ROOM;
-use rules::Refusal;
+ghost use mathlib.Core.Path.{_≡_};
+ghost use Prim.Native.Nat.{_≤_};
+ghost use lib.ListN.{length};
+ghost use Rattle.listing.specs.Calls.{call-of, Moves, ReadFrom, Within};
 
-// Is there one more byte to read?
-fn is_more() -> bool {
-    let mut one = [0u8; 1];
-    io::read_full(STDIN_FILENO, &mut one) == 1
+// What a call of read or write came to.
+enum Call {
+    Moved(usize),
+    Interrupted,
+    Failed,
 }
 
-// The line of a refusal.
-fn write_refusal(r: Refusal) {
-    let mut text = [0u8; 40];
-    let n = lines::put_refused(&mut text, r);
-    io::write_all(STDOUT_FILENO, &text[..n]);
+// By its answer, and by errno where that is -1.
+fn call_of(got: isize, error: i32) -> Call
+    ensures { λ r. ⌜ r ≡ call-of got error ⌝ }
+{
+    if got >= 0 {
+        return Call::Moved(got as usize);
+    }
+    if error == EINTR {
+        return Call::Interrupted;
+    }
+    Call::Failed
 }
 
-// The listing of an image.
-fn write_listing(image: &[u8]) {
+// One read of standard input, to a place of the buffer and behind it.
+fn read_from(input: &mut [u8], at: usize) -> Call
+    requires { ⌜ at ≤ length (now input) ⌝ }
+    ensures { λ r. ⌜ ReadFrom at (now (input .entry)) r (now (input .exit)) ⌝ }
+{
+    let got = libc::read(STDIN_FILENO, &mut input[at..]);
+    call_of(got, os::errno())
+}
+
+// What reading came to: so many bytes at the front of the buffer, or a read that failed.
+enum Input {
+    Held(usize),
+    Failed,
+}
+
+// Reads standard input until it ends or the buffer is full. A read that was interrupted is made again; a proved loop has to end, so that is
+// counted down, from a number that no run uses up.
+fn read_input(input: &mut [u8]) -> Input
+    ensures { λ r. ⌜ Within r (now (input .exit)) ⌝ }
+{
+    let mut at: usize = 0;
+    let mut turns = u64::MAX;
+    while at < input.len() {
+        match read_from(input, at) {
+            Call::Moved(n) => {
+                if n == 0 {
+                    return Input::Held(at);
+                }
+                at += n;
+            }
+            Call::Interrupted => {
+                if turns == 0 {
+                    return Input::Failed;
+                }
+                turns -= 1;
+            }
+            Call::Failed => {
+                return Input::Failed;
+            }
+        }
+    }
+    Input::Held(at)
+}
+
+// One write to standard output, of a text from a place on.
+fn write_from(text: &[u8], at: usize) -> Call
+    requires { ⌜ at ≤ length (now text) ⌝ }
+    ensures { λ r. ⌜ Moves at r (now (text .entry)) ⌝ }
+{
+    let got = libc::write(STDOUT_FILENO, &text[at..]);
+    call_of(got, os::errno())
+}
+
+// Writes a text to standard output, and answers how many of its bytes were taken: fewer than all where a write failed or took nothing.
+fn write_text(text: &[u8]) -> usize
+    ensures { λ r. ⌜ r ≤ length (now (text .entry)) ⌝ }
+{
+    let mut at: usize = 0;
+    let mut turns = u64::MAX;
+    while at < text.len() {
+        match write_from(text, at) {
+            Call::Moved(n) => {
+                if n == 0 {
+                    return at;
+                }
+                at += n;
+            }
+            Call::Interrupted => {
+                if turns == 0 {
+                    return at;
+                }
+                turns -= 1;
+            }
+            Call::Failed => {
+                return at;
+            }
+        }
+    }
+    at
+}
+
+// The listing of what was read.
+fn write_listing(input: &[u8]) {
     let mut text = [0u8; ROOM];
-    let n = lines::list(image, &mut text);
-    io::write_all(STDOUT_FILENO, &text[..n]);
+    let n = lines::list(input, &mut text);
+    if write_text(&text[..n]) < n {
+        os::fail(b"listing: standard output");
+    }
 }
 
 fn main() {
-    let mut image = [0u8; 65536];
-    let n = io::read_full(STDIN_FILENO, &mut image);
-    if n == 65536 {
-        if is_more() {
-            write_refusal(Refusal {
-                number: 20,
-                place: 0,
-            });
-            return;
-        }
+    let mut input = [0u8; LONGEST_INPUT + 1];
+    match read_input(&mut input) {
+        Input::Held(n) => write_listing(&input[..n]),
+        Input::Failed => os::fail(b"listing: standard input"),
     }
-    write_listing(&image[..n]);
 }

@@ -22,7 +22,7 @@ use Rattle.numbers.specs.declared.Move.{Move}
 use Rattle.numbers.specs.declared.Going.{Going}
 use Rattle.numbers.specs.declared.Going.the-variants.{Stays, Stops, Moves}
 use Rattle.numbers.specs.Numbers.{slots-from, number-at, task-from, numbers-from, state-from}
-use Rattle.numbers.specs.Going.{moved-to, in-next-cycle, with-start, turn-of}
+use Rattle.numbers.specs.Going.{moved-to, in-next-cycle, with-start, turn-of, TurnStored}
 use Rattle.numbers.proofs.StateNumbers.{numbers-of-state, state-of-numbers}
 
 -- slots with equal values are equal
@@ -288,15 +288,12 @@ start-made lent m long l =
 
 -- what going on does to a state is stored, and its answer told
 abbrev pub Stored : List ℕ → Going → StartAnswer → List ℕ → Type 0
-Stored lent g answer after =
-    (answer ≡ turn-of (state-from lent) g .answer)
-    × (after ≡ numbers (turn-of (state-from lent) g .state))
-    × (state-from after ≡ turn-of (state-from lent) g .state)
+Stored lent g = TurnStored (turn-of (state-from lent) g)
 
 -- it is where the answer and the state are right
 stored-turn : (lent : List ℕ) (g : Going) (answer : StartAnswer) (after : List ℕ) (turn : Turn) → turn-of (state-from lent) g ≡ turn →
     answer ≡ turn .answer → length after ≡ number-count → state-from after ≡ turn .state → Stored lent g answer after
-stored-turn lent g answer after turn e told long is = rw e (told, sym (numbers-of-state after long) ∙ ap numbers is, is)
+stored-turn lent g answer after turn e told long is = rw e (record { its-answer = told; its-numbers = sym (numbers-of-state after long) ∙ ap numbers is; its-state = is })
 
 module _ (lent : List ℕ) (g : Going) where
   -- a state that stays

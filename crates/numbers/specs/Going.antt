@@ -1,15 +1,17 @@
--- What going on does to a state, as a change of it. Assumes nothing.
+-- What going on does to a state, as a change of it, and as it is stored in the state's numbers. Assumes nothing.
 use mathlib.Core.Path.{_≡_}
 use mathlib.Core.Bool.{Bool, true, false}
 use mathlib.Core.List.{List, []}
 use Prim.Native.Nat.{ℕ, suc, _+_, _≤_, _<_}
+use Rattle.rules.specs.declared.StartAnswer.{StartAnswer}
 use Rattle.rules.specs.declared.StartAnswer.the-variants.{Start}
 use Rattle.rules.specs.declared.Dispatcher.{Dispatcher as State}
 use Rattle.rules.specs.declared.Turn.{Turn}
 use Rattle.rules.specs.Refusals.{refusal}
 use Rattle.rules.specs.Tasks.{limits}
 use Rattle.rules.specs.Offsets.{put-slot}
-use Rattle.rules.specs.Dispatcher.{front, refused, stopped, last-cycle}
+use Rattle.rules.specs.Dispatcher.{numbers, front, refused, stopped, last-cycle}
+use Rattle.numbers.specs.Numbers.{state-from}
 use Rattle.numbers.specs.declared.Move.{Move}
 use Rattle.numbers.specs.declared.Going.{Going}
 use Rattle.numbers.specs.declared.Going.the-variants.{Stays, Stops, Moves}
@@ -68,6 +70,12 @@ unfoldable pub turn-of : State → Going → Turn
 turn-of d (Stays number) = refused (refusal number 0) d
 turn-of d (Stops number) = refused (refusal number 0) stopped
 turn-of d (Moves m) = moved-to d m
+
+-- a turn as it is stored: its answer is told, the numbers are those of its state, and its state is what they are
+pub record TurnStored (turn : Turn) (answer : StartAnswer) (lent : List ℕ) : Type 0 where
+  pub its-answer : answer ≡ turn .answer
+  pub its-numbers : lent ≡ numbers (turn .state)
+  pub its-state : state-from lent ≡ turn .state
 
 -- a start's numbers can be stored: its task is one of the state's, and neither the next job number nor the next cycle is too large
 pub record CanStore (d : State) (g : Going) : Type 0 where

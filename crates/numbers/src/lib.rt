@@ -14,7 +14,7 @@ ghost use lib.ListN.{length};
 ghost use lib.Seq.{sets};
 ghost use Rattle.rules.specs.Dispatcher as book;
 ghost use Rattle.numbers.specs.Numbers.{task-from, set-from, numbers-from, offsets-from, number-at, state-from};
-ghost use Rattle.numbers.specs.Going.{in-next-cycle, with-start, turn-of, CanStore};
+ghost use Rattle.numbers.specs.Going.{in-next-cycle, with-start, turn-of, TurnStored, CanStore};
 
 // The task in the four numbers from a place on: O, C, T, D.
 pub fn task_from(numbers: &[u32], at: usize) -> Task
@@ -30,7 +30,7 @@ pub fn task_from(numbers: &[u32], at: usize) -> Task
 }
 
 // The set that the 64 numbers from a place on are.
-pub fn set_from(n: u32, numbers: &[u32], at: usize) -> TaskSet
+fn set_from(n: u32, numbers: &[u32], at: usize) -> TaskSet
     requires { ⌜ at + 64 ≤ length (now numbers) ⌝ }
     ensures { λ r. ⌜ r ≡ set-from n (now (numbers .entry)) at ⌝ }
 {
@@ -133,7 +133,8 @@ fn put_numbers(numbers: &mut [u32; 119], at: usize, slots: [u32; 16])
 
 // All numbers of the dispatcher's state, in their order: the state that they are is the same.
 pub fn numbers_of(d: Dispatcher) -> [u32; 119]
-    ensures { λ r. ⌜ (r ≡ book.numbers d) × (state-from r ≡ d) ⌝ }
+    ensures numbers { λ r. ⌜ r ≡ book.numbers d ⌝ }
+    ensures state { λ r. ⌜ state-from r ≡ d ⌝ }
 {
     let mut numbers = [0u32; 119];
     let set = d.set;
@@ -194,9 +195,11 @@ fn zero(numbers: &mut [u32; 119])
 
 // Begins the next cycle: next jobs 0 and offsets as at a cycle's start, of the n tasks; slots from n up stay.
 fn begin_again(numbers: &mut [u32; 119], n: usize)
-    requires { ⌜ (n ≤ 16) × (number-at (now numbers) 81 < book.last-cycle) × (length (now numbers) ≡ book.number-count) ⌝ }
-    ensures { λ _. ⌜ (state-from (now (numbers .exit)) ≡ in-next-cycle (state-from (now (numbers .entry))) n)
-        × (length (now (numbers .exit)) ≡ book.number-count) ⌝ }
+    requires few { ⌜ n ≤ 16 ⌝ }
+    requires another { ⌜ number-at (now numbers) 81 < book.last-cycle ⌝ }
+    requires long { ⌜ length (now numbers) ≡ book.number-count ⌝ }
+    ensures state { λ _. ⌜ state-from (now (numbers .exit)) ≡ in-next-cycle (state-from (now (numbers .entry))) n ⌝ }
+    ensures long { λ _. ⌜ length (now (numbers .exit)) ≡ book.number-count ⌝ }
 {
     numbers[81] = numbers[81] + 1;
     let mut i: usize = 0;
@@ -209,9 +212,11 @@ fn begin_again(numbers: &mut [u32; 119], n: usize)
 
 // Stores a start, whose cycle has begun.
 fn store_move(numbers: &mut [u32; 119], m: Move)
-    requires { ⌜ (m .task < 16) × (m .job < book.last-cycle) × (length (now numbers) ≡ book.number-count) ⌝ }
-    ensures { λ _. ⌜ (state-from (now (numbers .exit)) ≡ with-start (state-from (now (numbers .entry))) m)
-        × (length (now (numbers .exit)) ≡ book.number-count) ⌝ }
+    requires slot { ⌜ m .task < 16 ⌝ }
+    requires next { ⌜ m .job < book.last-cycle ⌝ }
+    requires long { ⌜ length (now numbers) ≡ book.number-count ⌝ }
+    ensures state { λ _. ⌜ state-from (now (numbers .exit)) ≡ with-start (state-from (now (numbers .entry))) m ⌝ }
+    ensures long { λ _. ⌜ length (now (numbers .exit)) ≡ book.number-count ⌝ }
 {
     let i = m.task as usize;
     numbers[65 + i] = m.job + 1;
@@ -225,9 +230,7 @@ fn store_move(numbers: &mut [u32; 119], m: Move)
 // Stores what going on does to a state, and tells its answer.
 pub fn store(numbers: &mut [u32; 119], g: Going) -> StartAnswer
     requires { ⌜ CanStore (state-from (now numbers)) g ⌝ }
-    ensures { λ r. ⌜ (r ≡ turn-of (state-from (now (numbers .entry))) g .answer)
-        × (now (numbers .exit) ≡ book.numbers (turn-of (state-from (now (numbers .entry))) g .state))
-        × (state-from (now (numbers .exit)) ≡ turn-of (state-from (now (numbers .entry))) g .state) ⌝ }
+    ensures { λ r. ⌜ TurnStored (turn-of (state-from (now (numbers .entry))) g) r (now (numbers .exit)) ⌝ }
 {
     let _ = count(numbers);
     match g {

@@ -15,23 +15,12 @@ use Rattle.rules.specs.declared.MakeAnswer.{MakeAnswer}
 use Rattle.rules.specs.declared.MakeAnswer.the-variants.{Made}
 use Rattle.rules.specs.Judging.{tables}
 use Rattle.rules.specs.Image.{timetable-image, table-image}
-use Rattle.rules.specs.Operations.{Timed, Tabled, derived, rebuilt, check-answer, check-timetable, check-tables, derive, derive-output, rebuild-output}
+use Rattle.rules.specs.Operations.{Timed, Tabled, derived, rebuilt, check-answer, check-timetable, check-tables, derive-output, rebuild-output, Derives, Rebuilds}
 use Rattle.rules.specs.Promised.{TimetableImage, TableImage}
 use Rattle.rules.proofs.Cases.{gives-in}
 use Rattle.rules.proofs.HasTables.{derived-tables, one-table}
 use Rattle.rules.proofs.Demand2.{derives, rebuilds, derive-made, rebuild-made}
 use Rattle.rules.proofs.Promises as book
-use Rattle.rebuilding.proofs.Promises.{Rebuilds}
-
--- the contracts of the two checks and of `derive`
-abbrev pub ChecksTimetable : List ℕ → CheckAnswer → Type 0
-ChecksTimetable bytes c = c ≡ check-timetable bytes
-
-abbrev pub ChecksTables : List ℕ → CheckAnswer → Type 0
-ChecksTables bytes c = c ≡ check-tables bytes
-
-abbrev pub Derives : List ℕ → List ℕ → MakeAnswer → List ℕ → Type 0
-Derives bytes old r out = (r ≡ derive bytes old) × (out ≡ derive-output bytes old)
 
 -- the image of a timetable's tables is accepted
 accepts-tables : {bytes : List ℕ} {ts : List Task} {τ : List Entry} → TableImage bytes ts τ → check-tables bytes ≡ Accepted
@@ -48,7 +37,7 @@ is-of-tables : {bytes : List ℕ} {ts : List Task} {τ : List Entry} → TableIm
 is-of-tables {bytes} {ts} t = t .is ∙ ap (table-image ts) (one-table (t .good) (t .valid) (t .has))
 
 -- the check of table images answers Accepted exactly when some valid timetable has those tables
-pub accepted-exactly : (bytes : List ℕ) → Bytes bytes → (c : CheckAnswer) → ChecksTables bytes c →
+pub accepted-exactly : (bytes : List ℕ) → Bytes bytes → (c : CheckAnswer) → c ≡ check-tables bytes →
     (c ≡ Accepted) ↔ ((ts : List Task) × (τ : List Entry) × TableImage bytes ts τ)
 accepted-exactly bytes b c met = (λ e. book.accepted-tables bytes b .0 (sym met ∙ e), λ w. met ∙ accepts-tables (w .2))
 
@@ -58,7 +47,7 @@ module _ (bytes : List ℕ) (are-bytes : Bytes bytes) (old : List ℕ) (r : Make
   -- is the image of the tables of the timetable that it was given
   pub derived-of : (ts : List Task) × (τ : List Entry) × TimetableImage bytes ts τ × TableImage (take n out) ts τ
   derived-of =
-      let w = derive-made bytes old n are-bytes (sym (met .0) ∙ made) in
+      let w = derive-made bytes old n are-bytes (sym (met .answer) ∙ made) in
       let t = w .2 in (
         w .0,
         w .1,
@@ -69,21 +58,21 @@ module _ (bytes : List ℕ) (are-bytes : Bytes bytes) (old : List ℕ) (r : Make
           good = t .good;
           valid = t .valid;
           has = derived-tables (t .good) (t .valid);
-          is = ap (take n) (met .1) ∙ w .3;
+          is = ap (take n) (met .output) ∙ w .3;
         },
       )
 
   -- is accepted
-  pub derived-accepted : (c : CheckAnswer) → ChecksTables (take n out) c → c ≡ Accepted
+  pub derived-accepted : (c : CheckAnswer) → c ≡ check-tables (take n out) → c ≡ Accepted
   derived-accepted c checked = checked ∙ accepts-tables (derived-of .3)
 
   -- and from it `rebuild` gives back the very bytes that `derive` was given, where there is room for them
   pub rebuilds-derived : (lent : List ℕ) (q : MakeAnswer) (filled : List ℕ) → Rebuilds (take n out) lent q filled → length bytes ≤ length lent →
       (q ≡ Made (length bytes)) × (filled ≡ bytes ++ drop (length bytes) lent)
   rebuilds-derived lent q filled again room =
-      let back = book.rebuild-after-derive bytes old n are-bytes (sym (met .0) ∙ made) lent room in
-      let given : take n out ≡ take n (derive-output bytes old) = ap (take n) (met .1) in
-      (rw given at (again .0) ∙ back .0, rw given at (again .1) ∙ back .1)
+      let back = book.rebuild-after-derive bytes old n are-bytes (sym (met .answer) ∙ made) lent room in
+      let given : take n out ≡ take n (derive-output bytes old) = ap (take n) (met .output) in
+      (rw given at (again .answer) ∙ back .0, rw given at (again .output) ∙ back .1)
 
 -- `derive` writes the same bytes only from the same bytes: no fixed tables
 pub derived-alike : (bytes : List ℕ) (b : Bytes bytes) (old : List ℕ) (r : MakeAnswer) (out : List ℕ) (met : Derives bytes old r out)
@@ -105,21 +94,21 @@ module _ (bytes : List ℕ) (are-bytes : Bytes bytes) (old : List ℕ) (r : Make
   -- is the image of the timetable behind the tables that it was given
   pub rebuilt-of : (ts : List Task) × (τ : List Entry) × TableImage bytes ts τ × TimetableImage (take n out) ts τ
   rebuilt-of =
-      let w = rebuild-made bytes old n are-bytes (sym (met .0) ∙ made) in
+      let w = rebuild-made bytes old n are-bytes (sym (met .answer) ∙ made) in
       let t = w .2 in
-      (w .0, w .1, t, record { h = t .h; good = t .good; valid = t .valid; is = ap (take n) (met .1) ∙ w .3 })
+      (w .0, w .1, t, record { h = t .h; good = t .good; valid = t .valid; is = ap (take n) (met .output) ∙ w .3 })
 
   -- is accepted
-  pub rebuilt-accepted : (c : CheckAnswer) → ChecksTimetable (take n out) c → c ≡ Accepted
+  pub rebuilt-accepted : (c : CheckAnswer) → c ≡ check-timetable (take n out) → c ≡ Accepted
   rebuilt-accepted c checked = checked ∙ accepts-timetable (rebuilt-of .3)
 
   -- and from it `derive` gives back the very bytes that `rebuild` was given, where there is room for them
   pub derives-rebuilt : (lent : List ℕ) (q : MakeAnswer) (filled : List ℕ) → Derives (take n out) lent q filled → length bytes ≤ length lent →
       (q ≡ Made (length bytes)) × (filled ≡ bytes ++ drop (length bytes) lent)
   derives-rebuilt lent q filled again room =
-      let back = book.derive-after-rebuild bytes old n are-bytes (sym (met .0) ∙ made) lent room in
-      let given : take n out ≡ take n (rebuild-output bytes old) = ap (take n) (met .1) in
-      (rw given at (again .0) ∙ back .0, rw given at (again .1) ∙ back .1)
+      let back = book.derive-after-rebuild bytes old n are-bytes (sym (met .answer) ∙ made) lent room in
+      let given : take n out ≡ take n (rebuild-output bytes old) = ap (take n) (met .output) in
+      (rw given at (again .answer) ∙ back .0, rw given at (again .output) ∙ back .1)
 
 -- `rebuild` writes the same bytes only from the same bytes: no fixed timetable
 pub rebuilt-alike : (bytes : List ℕ) (b : Bytes bytes) (old : List ℕ) (r : MakeAnswer) (out : List ℕ) (met : Rebuilds bytes old r out)

@@ -1,6 +1,7 @@
--- What whoever rebuilds a timetable from a table image can rely on, from the contract alone: one result; the output kept on a refusal; and the image
--- of exactly the timetable behind the tables at the front of the output. Assumes nothing.
+-- What whoever rebuilds a timetable from a table image can rely on, from the contract alone: one result; a refusal for exactly the first test that
+-- refuses, with the output kept; and the image of exactly the timetable behind the tables at the front of the output. Assumes nothing.
 use mathlib.Core.Path.{_≡_, sym, _∙_, ap}
+use mathlib.Core.Logic.{_↔_}
 use mathlib.Core.List.{List, _++_}
 use Prim.Native.Nat.{ℕ, _≤_}
 use lib.ListN.{length, take, drop}
@@ -13,24 +14,26 @@ use Rattle.rules.specs.declared.MakeAnswer.{MakeAnswer}
 use Rattle.rules.specs.declared.MakeAnswer.the-variants.{Made, Refused}
 use Rattle.rules.specs.Refusals.{Judged, gives}
 use Rattle.rules.specs.Image.{timetable-image}
-use Rattle.rules.specs.Operations.{rebuilt-image, make-answer, output-after, rebuild, rebuild-output}
-use Rattle.rules.specs.Promised.{TableImage}
-use Rattle.rules.proofs.Promises.{rebuilt-images, rebuild-refusals}
+use Rattle.rules.specs.Operations.{rebuilt-image, make-answer, output-after, rebuild, rebuild-output, Rebuilds}
+use Rattle.rules.specs.Promised.{TableImage, RefusesRebuilding}
+use Rattle.rules.proofs.Promises.{rebuilt-images, rebuild-refusals, rebuild-order}
 use Rattle.rules.proofs.Demand2.{rebuild-made}
 
--- the contract of `rebuild`
-abbrev pub Rebuilds : List ℕ → List ℕ → MakeAnswer → List ℕ → Type 0
-Rebuilds bytes old r out = (r ≡ rebuild bytes old) × (out ≡ rebuild-output bytes old)
-
--- it leaves one answer and one output
+-- the contract of `rebuild` leaves one answer and one output
 pub one-result : (bytes old : List ℕ) (r q : MakeAnswer) (out other : List ℕ) → Rebuilds bytes old r out → Rebuilds bytes old q other →
     (r ≡ q) × (out ≡ other)
-one-result bytes old r q out other met also = (met .0 ∙ sym (also .0), met .1 ∙ sym (also .1))
+one-result bytes old r q out other met also = (met .answer ∙ sym (also .answer), met .output ∙ sym (also .output))
 
 module _ (bytes old : List ℕ) (r : MakeAnswer) (out : List ℕ) (met : Rebuilds bytes old r out) where
   -- on a refusal all bytes of the output keep their values
   pub refused-keeps : (q : Refusal) → r ≡ Refused q → out ≡ old
-  refused-keeps q e = met .1 ∙ rebuild-refusals bytes old q (sym (met .0) ∙ e) .1
+  refused-keeps q e = met .output ∙ rebuild-refusals bytes old q (sym (met .answer) ∙ e) .1
+
+  -- it is a refusal exactly where that is the first that the document's order comes to, and 20 is the last
+  pub refused-exactly : Bytes bytes → (q : Refusal) → (r ≡ Refused q) ↔ RefusesRebuilding bytes (length old) q
+  refused-exactly b q =
+      let exactly = rebuild-order bytes old b q in
+      (λ e. exactly .0 (sym (met .answer) ∙ e), λ w. met .answer ∙ exactly .1 w)
 
   -- from the image of a timetable's tables, where there is room, the image of exactly that timetable is written, and later bytes keep their values
   pub writes-exactly : {ts : List Task} {τ : List Entry} → TableImage bytes ts τ → length (timetable-image ts τ) ≤ length old →
@@ -39,11 +42,11 @@ module _ (bytes old : List ℕ) (r : MakeAnswer) (out : List ℕ) (met : Rebuild
   writes-exactly {ts} {τ} t room =
       let given : rebuilt-image (length old) bytes ≡ gives (timetable-image ts τ) =
       rebuilt-images t (length old) ∙ rw (le-leb (length (timetable-image ts τ)) (length old) room) in
-      (met .0 ∙ ap make-answer given, met .1 ∙ ap (λ (z : Judged (List ℕ)). output-after z old) given)
+      (met .answer ∙ ap make-answer given, met .output ∙ ap (λ (z : Judged (List ℕ)). output-after z old) given)
 
   -- and a length is answered only where the bytes are such an image, and that timetable's image is what was written
   pub writes-only : Bytes bytes → (n : ℕ) → r ≡ Made n →
       (ts : List Task) × (τ : List Entry) × TableImage bytes ts τ × (take n out ≡ timetable-image ts τ)
   writes-only b n e =
-      let w = rebuild-made bytes old n b (sym (met .0) ∙ e) in
-      (w .0, w .1, w .2, ap (take n) (met .1) ∙ w .3)
+      let w = rebuild-made bytes old n b (sym (met .answer) ∙ e) in
+      (w .0, w .1, w .2, ap (take n) (met .output) ∙ w .3)

@@ -16,7 +16,7 @@ use Rattle.rules.specs.Refusals.{Judged, gives, refuses, refusal}
 use Rattle.rules.specs.Tasks.{all-jobs, GoodSet}
 use Rattle.rules.specs.Marks.{SL, EN, size}
 use Rattle.rules.specs.Image.{image, records, record-of, set-records, of-entry, timetable-image}
-use Rattle.rules.specs.Operations.{rebuilt, rebuilt-image, make-answer, output-after, into, rebuild, rebuild-output}
+use Rattle.rules.specs.Operations.{rebuilt, rebuilt-image, make-answer, output-after, into, rebuild, rebuild-output, Rebuilds}
 use Rattle.rules.proofs.GoodSets.{good-set}
 use Rattle.rules.proofs.ValidTimetables.{no-fault-valid, valid-length}
 use Rattle.rules.proofs.Images.{records-length, timetable-image-length}
@@ -30,9 +30,9 @@ use Rattle.rebuilding.specs.Rebuilt.{TimetableBehind, entries-bytes, ent
 
 -- what an image is refused with is answered, and the output is as it was
 pub refused-so : (bytes old : List ℕ) (r : Refusal) → rebuilt bytes ≡ refuses r →
-    (make-case.Refused r ≡ rebuild bytes old) × (old ≡ rebuild-output bytes old)
+    Rebuilds bytes old (make-case.Refused r) old
 unfolding rebuild rebuild-output
-refused-so bytes old r e = (rw e, rw e)
+refused-so bytes old r e = record { answer = rw e; output = rw e }
 
 -- behind the tables of an image that is not refused there is a timetable
 pub behind-good : {bytes : List ℕ} {t : Judgement} (g : Good bytes t) → TimetableBehind bytes (t .set) (t .hyperperiod) (t .first) (g .entries)
@@ -72,12 +72,12 @@ module _ (bytes : List ℕ) (s : TaskSet) (h : ℕ) (first-at : Offsets) (τ : L
 
     -- an output that is too short is refused, and is as it was
     pub too-short : (old : List ℕ) (n : ℕ) → n ≡ long → length old < n →
-        (make-case.Refused (refusal 20 0) ≡ rebuild bytes old) × (old ≡ rebuild-output bytes old)
+        Rebuilds bytes old (make-case.Refused (refusal 20 0)) old
     unfolding rebuild rebuild-output
     too-short old n n-is short =
         let e : rebuilt-image (length old) bytes ≡ refuses (refusal 20 0) =
         image-given (length old) ∙ rw (lt-leb (length (timetable-image ts τ)) (length old) (omega (arith, image-long))) in
-        (rw e, rw e)
+        record { answer = rw e; output = rw e }
 
     module _ (old : List ℕ) (n : ℕ) (n-is : n ≡ long) (room : n ≤ length old) where
       given : rebuilt-image (length old) bytes ≡ gives (timetable-image ts τ)

@@ -10,13 +10,14 @@ ghost use mathlib.Core.Path.{_≡_};
 ghost use mathlib.Core.List.{List};
 ghost use Rattle.rules.specs.declared.Entry as book-entry;
 ghost use Rattle.rules.specs.Tasks.{all-jobs};
-ghost use Rattle.rules.specs.Operations.{rebuild as rebuilds, rebuild-output};
+ghost use Rattle.rules.specs.Operations.{Rebuilds};
 ghost use Rattle.replay.specs.Releases.{tasks-of};
 ghost use Rattle.rebuilding.specs.Rebuilt.{TimetableBehind, entries-put, CanPut};
 
 // The entries of the rebuilt timetable, one behind the other behind the tasks.
 fn put_entries(image: &[u8], s: TaskSet, h: u32, first: Offsets, starts: usize, out: &mut [u8])
-    requires { ⌜ CanPut (now image) s h first (now out) × (starts ≡ all-jobs h (tasks-of s)) ⌝ }
+    requires can { ⌜ CanPut (now image) s h first (now out) ⌝ }
+    requires starts { ⌜ starts ≡ all-jobs h (tasks-of s) ⌝ }
     ensures { λ _. ⌜ ((τ : List book-entry.Entry) → TimetableBehind (now (image .entry)) s h first τ →
         now (out .exit) ≡ entries-put (now (out .entry)) (s .n) τ) ⌝ }
 {
@@ -38,8 +39,7 @@ fn put_entries(image: &[u8], s: TaskSet, h: u32, first: Offsets, starts: usize, 
 
 // Rebuilding: the timetable image of a table image at the front of the output, and nothing else changed.
 pub fn rebuild(image: &[u8], out: &mut [u8]) -> MakeAnswer
-    ensures { λ r. ⌜ (r ≡ rebuilds (now (image .entry)) (now (out .entry))) ×
-        (now (out .exit) ≡ rebuild-output (now (image .entry)) (now (out .entry))) ⌝ }
+    ensures { λ r. ⌜ Rebuilds (now (image .entry)) (now (out .entry)) r (now (out .exit)) ⌝ }
 {
     let t = tables::judge(image);
     if t.refusal.number != 0 {

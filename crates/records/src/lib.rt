@@ -113,7 +113,8 @@ fn inversion_at(image: &[u8], at: usize) -> Inversion
 
 // ID records in turn, left from inside with the first that is out of its range or not above the end of the one before. Number 0 where nothing is wrong.
 fn idles_fault(image: &[u8], n: usize, h: u32, idles: usize) -> Refusal
-    requires { ⌜ (n ≤ 16) × (inversions-offset n idles ≤ length (now image)) ⌝ }
+    requires few { ⌜ n ≤ 16 ⌝ }
+    requires inside { ⌜ inversions-offset n idles ≤ length (now image) ⌝ }
     ensures { λ r. ⌜ FirstFault (book-judging.idles-fault h (suc n) 0 (idles-at (now (image .entry)) (records-offset n) idles)) r ⌝ }
 {
     let mut at = first_record(n);
@@ -208,7 +209,9 @@ pub fn records_fault(
 
 // The same offset in the slots from one task to below another.
 fn fill(offsets: &mut [u32; 16], from: usize, to: usize, at: u32)
-    requires { ⌜ (from ≤ to) × (to ≤ 16) × (length (now offsets) ≡ 16) ⌝ }
+    requires onwards { ⌜ from ≤ to ⌝ }
+    requires few { ⌜ to ≤ 16 ⌝ }
+    requires slots { ⌜ length (now offsets) ≡ 16 ⌝ }
     ensures { λ _. ⌜ Filled (now (offsets .entry)) (λ (i : ℕ). at) from to (now (offsets .exit)) ⌝ }
 {
     let mut i = from;

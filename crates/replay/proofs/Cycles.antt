@@ -22,7 +22,7 @@ use Rattle.rules.specs.Setting.{Tables}
 use Rattle.rules.specs.Priority.{slot, start-job, all-started, by-priority, setting}
 use Rattle.rules.specs.Irregularities.{runs}
 use Rattle.rules.specs.Judging.{judge-tables}
-use Rattle.rules.specs.Offsets.{last-offset, Source, lent, past-own, next-is, next-start}
+use Rattle.rules.specs.Offsets.{last-offset, Source, lent, past-own, standing, next-is, next-start}
 use Rattle.rules.specs.Dispatcher.{zero-task, zeros}
 use Rattle.rules.proofs.Cases.{by-bool, by-eq, by-le, clash}
 use Rattle.rules.proofs.Arrays.{slot-element, task-in-slot}
@@ -33,14 +33,14 @@ use Rattle.rules.proofs.Shown.{ShowsIdles, no-idle, an-idle}
 use Rattle.rules.proofs.ShownAt.{Stand}
 use Rattle.rules.proofs.StandingTables.{read-stand}
 use Rattle.rules.proofs.StuckStarts.{by-next}
-use Rattle.rules.proofs.OffsetReplay.{Replays, zeros-same}
+use Rattle.rules.proofs.OffsetReplay.{ReplaysAt, zeros-same}
 use Rattle.rules.proofs.WastedRecords.{Wastes, wastes-begin, start-wastes, start-inverts, start-without, judged-late}
 use Rattle.decision.specs.declared.Found.{Found}
 use Rattle.decision.specs.declared.NextStart.{NextStart as Answer}
 use Rattle.decision.specs.declared.NextStart.the-variants.{Starts, Stuck}
 use Rattle.decision.specs.Next.{inverts, next-case, next-of, IdlesRead, none-left, one-more, AllRead}
 use Rattle.replay.specs.Releases.{tasks-of}
-use Rattle.replay.specs.Runs.{wasted-after, Point, Ends, entry-of, start-first, answer-at, behind, ends-of, AllReadIn, CanRun, CanReplay, first-releases, times-of, periods-of, cycle-start, cycle-of}
+use Rattle.replay.specs.Runs.{wasted-after, Point, Ends, as-entry, start-first, answer-at, behind, ends-of, AllReadIn, CanRun, CanReplay, first-releases, times-of, periods-of, cycle-start, cycle-of}
 use Rattle.replay.proofs.Stores.{start-stores}
 use Rattle.replay.proofs.Running.{ends-stuck, ends-last, ends-more}
 use Rattle.replay.proofs.Walk.{WalkAt, WalkGoesOn, walk-begins, walk-cycle, walk-all, walk-left, walk-readable, walk-starts}
@@ -51,7 +51,7 @@ pub record CycleDone (bytes : List ℕ) (ts : List Task) (X : Tables) (σ : List
   pub next : List ℕ
   pub free : ℕ
   pub offsets : List ℕ
-  pub replays : Replays bytes ts X σ next free offsets idle
+  pub replays : ReplaysAt bytes ts X σ next free offsets idle
   pub wastes : Wastes ts X σ next wasted
   pub all : all-started (hyperperiod ts) ts next ≡ true
 
@@ -84,14 +84,14 @@ wasted-falls wasted offset behind n =
 
 -- the tables of a good set stand in the image, and replay stands after some starts with a job left
 module _ {bytes : List ℕ} {ts : List Task} {X : Tables} {before : ℕ} (st : Stand bytes ts X before) (good : set-fault ts ≡ none) {σ : List Entry}
-    {next : List ℕ} {free : ℕ} {offsets : List ℕ} {idle wasted : ℕ} (R : Replays bytes ts X σ next free offsets idle) (W : Wastes ts X σ next wasted)
+    {next : List ℕ} {free : ℕ} {offsets : List ℕ} {idle wasted : ℕ} (R : ReplaysAt bytes ts X σ next free offsets idle) (W : Wastes ts X σ next wasted)
     (left : all-started (hyperperiod ts) ts next ≡ false) where
   -- a task's own offset behind its start
   abbrev own-end : ℕ → ℕ
   own-end i = past-own (lent bytes ts .inversion-shown (slot offsets i)) i (slot next i) (slot offsets i)
 
   -- a start that the rule book finds: the least offset of a record without effect
-  found-wastes : (i t o : ℕ) → next-start (setting ts) (lent bytes ts) next free offsets idle ≡ next-is i t o →
+  found-wastes : (i t o : ℕ) → next-start (setting ts) (lent bytes ts) (standing next free offsets idle) ≡ next-is i t o →
       Wastes ts X (σ ++ (record { task = i; start = t } ∷ [])) (start-job next i)
       (wasted-after wasted (slot offsets i) (own-end i) (inverts ts next t i))
   found-wastes i t o q =
@@ -103,9 +103,9 @@ module _ {bytes : List ℕ} {ts : List Task} {X : Tables} {before : ℕ} (st : S
 
   -- a start that the code finds
   wastes-on : (f : Found) → next-of ts bytes next free offsets idle ≡ Starts f →
-      Wastes ts X (σ ++ (entry-of f ∷ [])) (start-job next (f .task)) (wasted-after wasted (slot offsets (f .task)) (f .inversion) (f .inverts))
+      Wastes ts X (σ ++ (as-entry f ∷ [])) (start-job next (f .task)) (wasted-after wasted (slot offsets (f .task)) (f .inversion) (f .inverts))
   wastes-on f e =
-      by-next (next-start (setting ts) (lent bytes ts) next free offsets idle)
+      by-next (next-start (setting ts) (lent bytes ts) (standing next free offsets idle))
       (λ i t o q.
       let is : next-case ts bytes next offsets (next-is i t o) ≡ Starts f = rw q at e in
       let same : f ≡ record { task = i; start = t; idle = o; inversion = own-end i; inverts = inverts ts next t i } = cc in
@@ -115,7 +115,7 @@ module _ {bytes : List ℕ} {ts : List Task} {X : Tables} {before : ℕ} (st : S
   -- a stuck answer: 18 at the number of starts
   late-here : (number : ℕ) → next-of ts bytes next free offsets idle ≡ Stuck number → judge-tables ts X ≡ refuses (refusal 18 (length σ))
   late-here number e =
-      by-next (next-start (setting ts) (lent bytes ts) next free offsets idle)
+      by-next (next-start (setting ts) (lent bytes ts) (standing next free offsets idle))
       (λ i t o q. let other : next-case ts bytes next offsets (next-is i t o) ≡ Stuck number = rw q at e in clash (cc))
       (λ m q. judged-late st good R left m q)
 
@@ -137,15 +137,15 @@ module _ {bytes : List ℕ} {ts : List Task} {X : Tables} {σ : List Entry} wher
   stuck-so wasted number r = record { stuck = λ m e. rw (append-nil σ) r; done = λ f e. clash (cc) }
 
   -- with a last start
-  done-so : {wasted : ℕ} (f : Found) → CycleDone bytes ts X (σ ++ (entry-of f ∷ [])) (f .idle) wasted →
-      EndsSo bytes ts X σ (record { entries = entry-of f ∷ []; wasted = wasted; last = Starts f })
+  done-so : {wasted : ℕ} (f : Found) → CycleDone bytes ts X (σ ++ (as-entry f ∷ [])) (f .idle) wasted →
+      EndsSo bytes ts X σ (record { entries = as-entry f ∷ []; wasted = wasted; last = Starts f })
   done-so f d = record { stuck = λ number e. clash (cc); done = λ g e. let same : g ≡ f = cc in rw same d }
 
   -- with a start and others behind it
-  more-so : (f : Found) (e : Ends) → EndsSo bytes ts X (σ ++ (entry-of f ∷ [])) e → EndsSo bytes ts X σ (start-first f e)
+  more-so : (f : Found) (e : Ends) → EndsSo bytes ts X (σ ++ (as-entry f ∷ [])) e → EndsSo bytes ts X σ (start-first f e)
   more-so f e so = record {
-    stuck = λ number l. rw (← append-snoc σ (entry-of f) (e .entries)) (so .stuck number l);
-    done = λ g l. rw (← append-snoc σ (entry-of f) (e .entries)) (so .done g l);
+    stuck = λ number l. rw (← append-snoc σ (as-entry f) (e .entries)) (so .stuck number l);
+    done = λ g l. rw (← append-snoc σ (as-entry f) (e .entries)) (so .done g l);
   }
 
 -- the arrays that the run through a cycle begins with, and the number of its starts
@@ -165,8 +165,8 @@ cycle-run bytes s h first times periods releases all filled =
     rw (filled .times-are, filled .periods-are, filled .releases-are, filled .all-are)
 
 -- one start more is counted
-one-entry : (σ : List Entry) (f : Found) → length (σ ++ (entry-of f ∷ [])) ≡ suc (length σ)
-one-entry σ f = omega (arith, length-append σ (entry-of f ∷ []))
+one-entry : (σ : List Entry) (f : Found) → length (σ ++ (as-entry f ∷ [])) ≡ suc (length σ)
+one-entry σ f = omega (arith, length-append σ (as-entry f ∷ []))
 
 -- an image that may be replayed
 module _ {bytes : List ℕ} {s : TaskSet} {h : ℕ} {many slack : List ℕ} {first : OffsetsOf} (are-bytes : Bytes bytes)
@@ -240,7 +240,7 @@ module _ {bytes : List ℕ} {s : TaskSet} {h : ℕ} {many slack : List ℕ} {fir
       point-stuck = late-here cycle-stand (can .good) (a .walk .replays) (a .wastes) point-left
 
       -- the point behind the next start
-      point-on : (f : Found) → answer p ≡ Starts f → At (σ ++ (entry-of f ∷ [])) (on p f)
+      point-on : (f : Found) → answer p ≡ Starts f → At (σ ++ (as-entry f ∷ [])) (on p f)
       point-on f e =
           let i : ℕ = f .task in
           let w = a .walk in
@@ -262,7 +262,7 @@ module _ {bytes : List ℕ} {s : TaskSet} {h : ℕ} {many slack : List ℕ} {fir
           (λ m q. rw (ends-stuck ts bytes (times-of s) (periods-of s) p zero m q) (stuck-so (p .wasted) m (point-stuck m q)))
 
       -- and what more come to
-      ends-on : (more : ℕ) → ((f : Found) → answer p ≡ Starts f → EndsSo bytes ts X (σ ++ (entry-of f ∷ [])) (run more (on p f))) →
+      ends-on : (more : ℕ) → ((f : Found) → answer p ≡ Starts f → EndsSo bytes ts X (σ ++ (as-entry f ∷ [])) (run more (on p f))) →
           EndsSo bytes ts X σ (run (suc more) p)
       ends-on more later =
           by-answer (answer p)
@@ -276,7 +276,7 @@ module _ {bytes : List ℕ} {s : TaskSet} {h : ℕ} {many slack : List ℕ} {fir
   run-read zero σ p a left = point-read a
   run-read (suc more) σ p a left = (
     point-read a,
-    λ f e. run-read more (σ ++ (entry-of f ∷ [])) (on p f) (point-on a (omega arith) f e) (omega (arith, one-entry σ f)),
+    λ f e. run-read more (σ ++ (as-entry f ∷ [])) (on p f) (point-on a (omega arith) f e) (omega (arith, one-entry σ f)),
   )
 
   -- what the run comes to
@@ -284,7 +284,7 @@ module _ {bytes : List ℕ} {s : TaskSet} {h : ℕ} {many slack : List ℕ} {fir
   run-ends zero σ p a left = ends-here a (omega arith) (omega arith)
   run-ends (suc more) σ p a left =
       ends-on a (omega arith) more
-      (λ f q. run-ends more (σ ++ (entry-of f ∷ [])) (on p f) (point-on a (omega arith) f q) (omega (arith, one-entry σ f)))
+      (λ f q. run-ends more (σ ++ (as-entry f ∷ [])) (on p f) (point-on a (omega arith) f q) (omega (arith, one-entry σ f)))
 
   -- the point at which the cycle begins
   cycle-begins : At [] (cycle-start s first)

@@ -12,7 +12,7 @@ use borrow.Author.Tests.{lt-ltb, le-ltb}
 use Rattle.fields.specs.Body.{head₀, tail₀}
 use Rattle.rules.specs.declared.Task.{Task}
 use Rattle.rules.specs.declared.TaskSet.{TaskSet}
-use Rattle.rules.specs.Tasks.{limits, task, release}
+use Rattle.rules.specs.Tasks.{limits, largest-number, task, release}
 use Rattle.rules.specs.Priority.{slot}
 use Rattle.rules.proofs.Cases.{by-le}
 use Rattle.rules.proofs.Arrays.{slot-element, task-in-slot}
@@ -68,7 +68,7 @@ module _ (ts : List Task) (x : List ℕ) where
 module _ (s : TaskSet) (x : List ℕ) where
   -- the release that a slot is filled with is a number of 32 bits
   pub release-fits : ReleasesFit s x → s .n ≤ length (s .tasks) → (i : ℕ) (d : Task) → i < s .n →
-      release (getD (s .tasks) i d) (getD x i 0) ≤ 4294967295
+      release (getD (s .tasks) i d) (getD x i 0) ≤ largest-number
   release-fits f room i d l = rw (← task-in-slot (s .tasks) (s .n) i d room l, ← slot-element x i) (f .fit i l)
 
   -- the array when all slots are filled

@@ -7,7 +7,7 @@ use Rattle.rules.specs.declared.TaskSet.{TaskSet}
 use Rattle.rules.specs.declared.Offsets.{Offsets}
 use Rattle.replay.specs.declared.Run.{Run}
 use Rattle.replay.specs.Releases.{releases-of, none-before}
-use Rattle.replay.specs.Runs.{run-told, entries-from, cycle-of}
+use Rattle.replay.specs.Runs.{Ran, cycle-of}
 
 -- the contract of `releases_of` leaves one array, that of `all_started` one answer; that of `one_start` is the next start's own
 pub one-array : (s : TaskSet) (next r q : List ℕ) → r ≡ releases-of s next → q ≡ releases-of s next → r ≡ q
@@ -18,10 +18,6 @@ one-test n h releases r q e f = e ∙ sym f
 
 -- the contract of `cycle` leaves one result, and one output
 module _ (bytes : List ℕ) (s : TaskSet) (h : ℕ) (first : Offsets) (old : List ℕ) (at : ℕ) where
-  -- what it promises of its result and of the output
-  abbrev Promised : Run → List ℕ → Type 0
-  Promised r out = (r ≡ run-told (cycle-of bytes s h first)) × (out ≡ entries-from old at (cycle-of bytes s h first .entries))
-
   -- two that meet it are equal
-  pub one-cycle : (r q : Run) (out other : List ℕ) → Promised r out → Promised q other → (r ≡ q) × (out ≡ other)
-  one-cycle r q out other a b = (a .0 ∙ sym (b .0), a .1 ∙ sym (b .1))
+  pub one-cycle : (r q : Run) (out other : List ℕ) → Ran (cycle-of bytes s h first) old at r out → Ran (cycle-of bytes s h first) old at q other → (r ≡ q) × (out ≡ other)
+  one-cycle r q out other a b = (a .told ∙ sym (b .told), a .output ∙ sym (b .output))

@@ -11,20 +11,19 @@ use lib.Seq.{getD-set-same, getD-set-other}
 use borrow.Author.Tests.{lt-leb}
 use Rattle.rules.specs.declared.Task.{Task}
 use Rattle.rules.specs.declared.Entry.{Entry}
-use Rattle.rules.specs.Tasks.{limits, task, release, jobs, hyperperiod, GoodSet}
-use Rattle.rules.specs.Setting.{instant}
+use Rattle.rules.specs.Tasks.{limits, task, release, jobs, GoodSet}
 use Rattle.rules.specs.Priority.{slot, start-job, setting}
 use Rattle.rules.specs.Marks.{SL, size}
 use Rattle.rules.specs.Image.{record-of, of-entry, written}
-use Rattle.rules.specs.Offsets.{last-offset, lent, past-idle, next-is, stuck, next-start}
+use Rattle.rules.specs.Offsets.{last-offset, lent, standing, next-is, next-start}
 use Rattle.rules.proofs.Cases.{by-eq, differ, clash}
 use Rattle.rules.proofs.Arrays.{slot-element}
 use Rattle.rules.proofs.GoodSets.{good-rules, good-positive}
 use Rattle.rules.proofs.Framed.{written-length}
-use Rattle.rules.proofs.PriorityLaws.{StartKeepsRules, keeps-rules, ends-in-cycle, setting-laws, slot-start-same, slot-start-other}
+use Rattle.rules.proofs.PriorityLaws.{StartKeepsRules, ends-in-cycle, slot-start-same, slot-start-other}
 use Rattle.rules.proofs.ForcedIdle.{released-in-cycle}
 use Rattle.rules.proofs.StuckStarts.{by-next}
-use Rattle.rules.proofs.NextTurns.{next-unreadable, next-idles, idle-ends, next-starts, next-refused, by-one-turn}
+use Rattle.rules.proofs.NextTurns.{next-keeps-rules}
 use Rattle.decision.specs.declared.Found.{Found}
 use Rattle.decision.specs.declared.NextStart.the-variants.{Starts, Stuck}
 use Rattle.decision.specs.Fits.{Fits}
@@ -33,52 +32,19 @@ use Rattle.decision.proofs.Fitting.{is-hyperperiod}
 use Rattle.writing.specs.Writing.{put-at, record-put}
 use Rattle.writing.proofs.Puts.{put-length}
 use Rattle.replay.specs.declared.Run.{Run}
-use Rattle.replay.specs.Runs.{Point, Ends, entry-of, start-first, answer-at, wasted-by, behind, ends-of, AllReadIn, run-told, entries-from, CanRun}
+use Rattle.replay.specs.Runs.{Point, Ends, as-entry, start-first, answer-at, wasted-by, behind, ends-of, AllReadIn, run-told, entries-from, Ran, CanRun}
 use Rattle.replay.proofs.Stores.{start-stores}
-
-module _ (bytes : List ℕ) {ts : List Task} (good : GoodSet ts (hyperperiod ts)) (x : List ℕ) (offsets : List ℕ) (i t w : ℕ) where
-  -- a start that is found keeps the rules: in turns that are enough for what is left of the cycle
-  found-in : (turns : ℕ) (f o : ℕ) → hyperperiod ts < turns + f → 1 ≤ turns →
-      next-start (setting ts) (lent bytes ts) x f offsets o ≡ next-is i t w → StartKeepsRules ts (hyperperiod ts) x t i t
-  found-in zero f o past some e = absurd (omega arith)
-  found-in (suc turns) f o past some e =
-      let now : ℕ = instant (setting ts) x f in
-      by-one-turn bytes ts x f now offsets o refl
-      (λ a. let g : stuck 25 ≡ next-is i t w = sym (next-unreadable bytes ts x f now offsets o refl a) ∙ e in clash (cc))
-      (λ l a d. let k = idle-ends bytes ts x f now offsets o refl l d in
-      found-in turns (now + l) (past-idle (lent bytes ts .idle-shown o) o) (omega arith) (omega arith)
-      (sym (next-idles bytes ts x f now offsets o refl l a d) ∙ e))
-      (λ j a d k.
-      let g : next-is j now o ≡ next-is i t w = sym (next-starts bytes ts x f now offsets o refl j a d k) ∙ e in
-      let same : j ≡ i = cc in
-      let then : now ≡ t = cc in
-      rw (← same, ← then)
-      (keeps-rules ts (hyperperiod ts) x now j now (setting-laws ts (hyperperiod ts) (good-rules good) .replay-refuses x now j now k)))
-      (λ j m a d k. let g : stuck (suc m) ≡ next-is i t w = sym (next-refused bytes ts x f now offsets o refl j m a d k) ∙ e in clash (cc))
-
-  -- and so in all turns
-  pub found-keeps : (f o : ℕ) → next-start (setting ts) (lent bytes ts) x f offsets o ≡ next-is i t w → StartKeepsRules ts (hyperperiod ts) x t i t
-  found-keeps f o e = found-in (suc (hyperperiod ts)) f o (omega arith) (omega arith) e
-
-  -- task i is of the set and has a job left
-  abbrev Left : Type 0
-  Left = (i < length ts) × (slot x i < jobs (hyperperiod ts) (task ts i))
-
-  -- a start that is found is of such a task
-  pub found-left : (f o : ℕ) → next-start (setting ts) (lent bytes ts) x f offsets o ≡ next-is i t w → Left
-  found-left f o e = let keep = found-keeps f o e in (keep .a-task, keep .left)
 
 -- a start as it is answered keeps the rules
 pub answer-keeps : {ts : List Task} {h n : ℕ} {many slack x releases : List ℕ} (bytes : List ℕ) (free : ℕ) (offsets : List ℕ) (o : ℕ) (f : Found) →
     Fits ts h n many slack x releases → next-of ts bytes x free offsets o ≡ Starts f → StartKeepsRules ts h x (f .start) (f .task) (f .start)
 answer-keeps {ts} {x = x} bytes free offsets o f fits e =
-    let good : GoodSet ts (hyperperiod ts) = rw (is-hyperperiod fits) at (fits .set .good) in
-    by-next (next-start (setting ts) (lent bytes ts) x free offsets o)
+    by-next (next-start (setting ts) (lent bytes ts) (standing x free offsets o))
     (λ i t w q.
     let is : next-case ts bytes x offsets (next-is i t w) ≡ Starts f = rw q at e in
     let its : f .task ≡ i = cc in
     let then : f .start ≡ t = cc in
-    rw (its, then, is-hyperperiod fits) (found-keeps bytes good x offsets i t w free o q))
+    rw (its, then, is-hyperperiod fits) (next-keeps-rules bytes ts (standing x free offsets o) i t w q))
     (λ m q. let other : Stuck m ≡ Starts f = rw q at e in clash (cc))
 
 -- numbers that the code reckons with at a start of task i at t, and the arrays behind it, which fit again
@@ -155,7 +121,7 @@ module _ (ts : List Task) (bytes times periods : List ℕ) (p : Point) where
 
   -- a start, and none behind it is wanted
   pub ends-last : (f : Found) → answer-at ts bytes times periods p ≡ Starts f →
-      ends-of ts bytes times periods 0 p ≡ record { entries = entry-of f ∷ []; wasted = wasted-by p f; last = Starts f }
+      ends-of ts bytes times periods 0 p ≡ record { entries = as-entry f ∷ []; wasted = wasted-by p f; last = Starts f }
   unfolding ends-of
   ends-last f e = rw (e, ends-of)
 
@@ -176,18 +142,18 @@ none-put (e ∷ τ) out place past =
 -- an output and a place in it, behind an entry that is put where it fits: what is put next comes behind it
 pub record PutsOn (out : List ℕ) (place : ℕ) (out′ : List ℕ) (place′ : ℕ) (f : Found) : Type 0 where
   pub same-length : length out′ ≡ length out
-  pub on : (τ : List Entry) → entries-from out place (entry-of f ∷ τ) ≡ entries-from out′ place′ τ
+  pub on : (τ : List Entry) → entries-from out place (as-entry f ∷ τ) ≡ entries-from out′ place′ τ
 
 module _ {out : List ℕ} {place : ℕ} {out′ : List ℕ} {place′ : ℕ} (f : Found) where
   -- the entry is put
-  pub puts-entry : out′ ≡ record-put out place (record-of SL (of-entry (entry-of f))) → place′ ≡ place + size SL → PutsOn out place out′ place′ f
+  pub puts-entry : out′ ≡ record-put out place (record-of SL (of-entry (as-entry f))) → place′ ≡ place + size SL → PutsOn out place out′ place′ f
   unfolding entries-from
   puts-entry o p = rw (o, p) (record { same-length = put-length out place _; on = λ τ. refl })
 
   -- or its place is behind the output's end
   pub puts-none : out′ ≡ out → place′ ≡ place → length out ≤ place → PutsOn out place out′ place′ f
   puts-none o p past =
-      rw (o, p) (record { same-length = refl; on = λ τ. none-put (entry-of f ∷ τ) out place past ∙ sym (none-put τ out place past) })
+      rw (o, p) (record { same-length = refl; on = λ τ. none-put (as-entry f ∷ τ) out place past ∙ sym (none-put τ out place past) })
 
 -- what a run tells that comes behind so many starts
 abbrev pub told-behind : ℕ → Ends → Run
@@ -232,8 +198,7 @@ module _ {ts : List Task} {bytes : List ℕ} {judged : Bool} {h n : ℕ} {many s
 
   -- what the run is to tell and to leave in the output
   abbrev Ended : Run → List ℕ → Type 0
-  Ended told out = (told ≡ run-told (ends-of ts bytes times periods (wanted - 1) begins-at))
-      × (out ≡ entries-from old at (ends-of ts bytes times periods (wanted - 1) begins-at .entries))
+  Ended = Ran (ends-of ts bytes times periods (wanted - 1) begins-at) old at
 
   module _ {p : Point} {out : List ℕ} {place made : ℕ}
       (r : RunAt ts bytes judged h n many slack times periods wanted begins-at old at p out place made) where
@@ -250,7 +215,7 @@ module _ {ts : List Task} {bytes : List ℕ} {judged : Bool} {h n : ℕ} {many s
         let told : told-behind made (record { entries = []; wasted = p .wasted; last = Stuck number })
         ≡ run-told (ends-of ts bytes times periods (wanted - 1) begins-at) = rw is at (r .told) in
         let put : entries-from out place [] ≡ entries-from old at (ends-of ts bytes times periods (wanted - 1) begins-at .entries) = rw is at (r .put) in
-        (rw (add-zero made) at told, put)
+        record { told = rw (add-zero made) at told; output = put }
 
     module _ (f : Found) (e : answer-at ts bytes times periods p ≡ Starts f) where
       -- a start that is found keeps the rules
@@ -268,7 +233,7 @@ module _ {ts : List Task} {bytes : List ℕ} {judged : Bool} {h n : ℕ} {many s
       run-ends puts enough =
           let none : wanted - 1 - made ≡ 0 = omega (arith, r .left) in
           let is = ends-last ts bytes times periods p f e in
-          (rw (none, is) at (r .told), sym (puts .on []) ∙ (rw (none, is) at (r .put)))
+          record { told = rw (none, is) at (r .told); output = sym (puts .on []) ∙ (rw (none, is) at (r .put)) }
 
       -- more are wanted: the numbers and arrays
       pub run-start : made + 1 < wanted →
@@ -318,4 +283,4 @@ one-may-run bytes times periods idle offsets fits by-end = record {
 pub one-answer : (ts : List Task) (bytes times periods : List ℕ) (p : Point) → ends-of ts bytes times periods 0 p .last ≡ answer-at ts bytes times periods p
 unfolding ends-of
 one-answer ts bytes times periods p =
-    by-next (next-start (setting ts) (lent bytes ts) (p .next) (p .free) (p .offsets) (p .idle)) (λ i t w q. rw (q, ends-of)) (λ m q. rw (q, ends-of))
+    by-next (next-start (setting ts) (lent bytes ts) (standing (p .next) (p .free) (p .offsets) (p .idle))) (λ i t w q. rw (q, ends-of)) (λ m q. rw (q, ends-of))

@@ -16,7 +16,7 @@ use Rattle.rules.specs.Tasks.{limits, task, release, jobs, all-jobs, hyperperio
 use Rattle.rules.specs.Setting.{Tables}
 use Rattle.rules.specs.Priority.{slot, start-job, all-started, setting}
 use Rattle.rules.specs.Decision.{replay}
-use Rattle.rules.specs.Offsets.{lent, past-own, next-is, next-start, tasks-readable, inversion-offsets, first-offsets}
+use Rattle.rules.specs.Offsets.{lent, past-own, standing, next-is, next-start, tasks-readable, inversion-offsets, first-offsets}
 use Rattle.rules.specs.Dispatcher.{zeros}
 use Rattle.rules.proofs.Cases.{by-bool, by-le, clash}
 use Rattle.rules.proofs.GoodSets.{set-good, good-rules}
@@ -26,7 +26,7 @@ use Rattle.rules.proofs.ForcedIdle.{released-in-cycle}
 use Rattle.rules.proofs.Shown.{from, shown-readable}
 use Rattle.rules.proofs.ShownAt.{Stand}
 use Rattle.rules.proofs.StuckStarts.{by-next}
-use Rattle.rules.proofs.OffsetReplay.{Replays, StartsNext, zeros-same, replay-begins, replay-starts, replay-stuck, replay-done, done-length}
+use Rattle.rules.proofs.OffsetReplay.{ReplaysAt, StartsNext, zeros-same, replay-begins, replay-starts, replay-stuck, replay-done, done-length}
 use Rattle.records.specs.Fits.{SetFits}
 use Rattle.records.proofs.OffsetsTold.{offsets-length}
 use Rattle.decision.specs.Fits.{Fits}
@@ -42,7 +42,7 @@ use Rattle.replay.proofs.Running.{answer-keeps, start-fits}
 pub record WalkAt (bytes : List ℕ) (ts : List Task) (X : Tables) (h n : ℕ) (many slack : List ℕ) (σ : List Entry) (next releases : List ℕ)
     (free idle : ℕ) (offsets : List ℕ) : Type 0 where
   pub fits : Fits ts h n many slack next releases
-  pub replays : Replays bytes ts X σ next free offsets idle
+  pub replays : ReplaysAt bytes ts X σ next free offsets idle
   pub next-slots : length next ≡ limits .tasks
   pub release-slots : length releases ≡ limits .tasks
   pub offset-slots : length offsets ≡ limits .tasks
@@ -146,10 +146,10 @@ module _ {bytes : List ℕ} {ts : List Task} {X : Tables} {before : ℕ} (st : S
     module _ (left : all-started h ts next ≡ false) where
       -- the next start is stuck: replay comes to a late job
       pub walk-stuck : (number : ℕ) →
-          Stuck number ≡ next-case ts bytes next offsets (next-start (setting ts) (lent bytes ts) next free offsets idle) →
+          Stuck number ≡ next-case ts bytes next offsets (next-start (setting ts) (lent bytes ts) (standing next free offsets idle)) →
           replay (setting ts) [] X ≡ refuses (refusal 18 (length σ))
       walk-stuck number e =
-          by-next (next-start (setting ts) (lent bytes ts) next free offsets idle)
+          by-next (next-start (setting ts) (lent bytes ts) (standing next free offsets idle))
           (λ i t o q. let other : Stuck number ≡ next-case ts bytes next offsets (next-is i t o) = rw q at e in clash (cc))
           (λ m q. replay-stuck st walk-good (w .replays) (rw walk-cycle at left) m q)
 
@@ -164,7 +164,7 @@ module _ {bytes : List ℕ} {ts : List Task} {X : Tables} {before : ℕ} (st : S
       }
 
       -- the walk goes on behind a start that the rule book finds
-      found-goes-on : (i t o : ℕ) → next-start (setting ts) (lent bytes ts) next free offsets idle ≡ next-is i t o →
+      found-goes-on : (i t o : ℕ) → next-start (setting ts) (lent bytes ts) (standing next free offsets idle) ≡ next-is i t o →
           WalkGoesOn bytes ts X h n many slack σ next releases offsets (found i t o)
       found-goes-on i t o q =
           let z : StartsNext bytes ts X σ next offsets i t o = replay-starts st walk-good (w .replays) (rw walk-cycle at left) i t o q in
@@ -189,10 +189,10 @@ module _ {bytes : List ℕ} {ts : List Task} {X : Tables} {before : ℕ} (st : S
 
       -- the next start is there: the walk goes on behind it
       pub walk-starts : (f : Found) →
-          Starts f ≡ next-case ts bytes next offsets (next-start (setting ts) (lent bytes ts) next free offsets idle) →
+          Starts f ≡ next-case ts bytes next offsets (next-start (setting ts) (lent bytes ts) (standing next free offsets idle)) →
           WalkGoesOn bytes ts X h n many slack σ next releases offsets f
       walk-starts f e =
-          by-next (next-start (setting ts) (lent bytes ts) next free offsets idle)
+          by-next (next-start (setting ts) (lent bytes ts) (standing next free offsets idle))
           (λ i t o q.
           let is : Starts f ≡ next-case ts bytes next offsets (next-is i t o) = rw q at e in
           let same : f ≡ found i t o = cc in

@@ -7,7 +7,7 @@ use lib.ListN.{take, replicate}
 use Rattle.fields.specs.Body.{head₀, tail₀}
 use Rattle.rules.specs.declared.Task.{Task}
 use Rattle.rules.specs.declared.TaskSet.{TaskSet}
-use Rattle.rules.specs.Tasks.{limits, task, release}
+use Rattle.rules.specs.Tasks.{limits, largest-number, task, release}
 use Rattle.rules.specs.Priority.{slot}
 
 -- the tasks of a set in memory
@@ -26,7 +26,7 @@ releases-of s x = next-releases (tasks-of s) x ++ replicate (limits .tasks - s .
 -- the releases are numbers of 32 bits
 pub record ReleasesFit (s : TaskSet) (x : List ℕ) : Type 0 where
   pub few : s .n ≤ limits .tasks
-  pub fit : (i : ℕ) → i < s .n → release (task (tasks-of s) i) (slot x i) ≤ 4294967295
+  pub fit : (i : ℕ) → i < s .n → release (task (tasks-of s) i) (slot x i) ≤ largest-number
 
 -- does none of the first n numbers lie before an instant
 unfoldable pub none-before : ℕ → ℕ → List ℕ → Bool

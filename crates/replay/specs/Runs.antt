@@ -51,12 +51,12 @@ pub record Ends : Type 0 where
   pub last : Answer
 
 -- a start as an entry
-abbrev pub entry-of : Found → Entry
-entry-of f = record { task = f .task; start = f .start }
+abbrev pub as-entry : Found → Entry
+as-entry f = record { task = f .task; start = f .start }
 
 -- a start before the others of a run
 abbrev pub start-first : Found → Ends → Ends
-start-first f e = record { entries = entry-of f ∷ e .entries; wasted = e .wasted; last = e .last }
+start-first f e = record { entries = as-entry f ∷ e .entries; wasted = e .wasted; last = e .last }
 
 -- the least offset of a PV record that had no effect, behind a start
 abbrev pub wasted-by : Point → Found → ℕ
@@ -83,7 +83,7 @@ module _ (ts : List Task) (bytes times periods : List ℕ) where
   unfoldable pub ends-of : ℕ → Point → Ends
   ends-of zero p =
       elim (answer-at p) [
-        | Starts f ↦ record { entries = entry-of f ∷ []; wasted = wasted-by p f; last = Starts f }
+        | Starts f ↦ record { entries = as-entry f ∷ []; wasted = wasted-by p f; last = Starts f }
         | Stuck number ↦ record { entries = []; wasted = p .wasted; last = Stuck number }
       ]
   ends-of (suc more) p =
@@ -111,6 +111,11 @@ run-told e = record { made = length (e .entries); wasted = e .wasted; last = e .
 unfoldable pub entries-from : List ℕ → ℕ → List Entry → List ℕ
 entries-from old at [] = old
 entries-from old at (e ∷ τ) = entries-from (record-put old at (record-of SL (of-entry e))) (at + size SL) τ
+
+-- a run as it is told, and its entries in the output from a place on
+pub record Ran (e : Ends) (old : List ℕ) (at : ℕ) (r : Run) (left : List ℕ) : Type 0 where
+  pub told : r ≡ run-told e
+  pub output : left ≡ entries-from old at (e .entries)
 
 -- where a run is to begin: arrays that fit the set and what has started; for more than one start, these in sixteen slots, and each task's time and
 -- period; and, for records that were judged, offsets that can be read

@@ -1,5 +1,6 @@
 // Starts, one behind the other: replay through a cycle, for accepting and for rebuilding, and the dispatcher's one start. All of them come to the
 // next start in one place, so that the compiler puts it in line. No heap and no table of jobs; memory beside the arguments is a few arrays of 16.
+use decision::LAST_OFFSET;
 use decision::NextStart;
 use images::ROWS;
 use images::SL;
@@ -13,12 +14,9 @@ ghost use Rattle.rules.specs.declared.Task.{Task};
 ghost use Rattle.rules.specs.Tasks.{all-jobs};
 ghost use Rattle.rules.specs.Dispatcher.{zeros};
 ghost use Rattle.decision.specs.Fits.{Fits};
-ghost use Rattle.decision.specs.Next.{next-of};
+ghost use Rattle.decision.specs.Next.{FindsNext};
 ghost use Rattle.replay.specs.Releases.{tasks-of, releases-of, ReleasesFit, none-before};
-ghost use Rattle.replay.specs.Runs.{wasted-after, run-from, run-told, entries-from, CanRun, CanReplay, first-releases, times-of, periods-of, cycle-of};
-
-// No offset is this one: no record is wasted.
-const NONE: u32 = 4294967295;
+ghost use Rattle.replay.specs.Runs.{wasted-after, run-from, Ran, CanRun, CanReplay, first-releases, times-of, periods-of, cycle-of};
 
 // The release of the next job of each of n tasks, by their next job numbers; the other slots are 0.
 pub fn releases_of(s: TaskSet, next: &[u32; 16]) -> [u32; 16]
@@ -102,16 +100,15 @@ fn starts(
     ensures { λ r. ⌜ ((ts : List Task) →
         CanRun ts (now (image .entry)) judged h n (now (jobs .entry)) (now (slack .entry)) (now (times .entry)) (now (periods .entry))
         (now (next .entry)) (now (release .entry)) free idle (now (offsets .entry)) wanted →
-        let e = run-from ts (now (image .entry)) (now (times .entry)) (now (periods .entry)) (now (next .entry)) (now (release .entry))
-        free idle (now (offsets .entry)) wanted in
-        (r ≡ run-told e) × (now (out .exit) ≡ entries-from (now (out .entry)) at (e .entries))) ⌝ }
+        Ran (run-from ts (now (image .entry)) (now (times .entry)) (now (periods .entry)) (now (next .entry)) (now (release .entry))
+        free idle (now (offsets .entry)) wanted) (now (out .entry)) at r (now (out .exit))) ⌝ }
 {
     let mut counts = *next;
     let mut releases = *release;
     let mut positions = *offsets;
     let mut from = free;
     let mut position = idle;
-    let mut wasted = NONE;
+    let mut wasted = LAST_OFFSET;
     let mut place = at;
     let mut made: usize = 0;
     'starts: loop {
@@ -180,9 +177,10 @@ pub fn one_start(
     idle: u32,
     offsets: &[u32; 16],
 ) -> NextStart
-    requires { ⌜ ((ts : List Task) × Fits ts h n (now jobs) (now slack) (now next) (now release)) × (free ≤ h) ⌝ }
-    ensures { λ r. ⌜ ((ts : List Task) → Fits ts h n (now (jobs .entry)) (now (slack .entry)) (now (next .entry)) (now (release .entry)) →
-        r ≡ next-of ts (now (image .entry)) (now (next .entry)) free (now (offsets .entry)) idle) ⌝ }
+    requires fits { ⌜ ((ts : List Task) × Fits ts h n (now jobs) (now slack) (now next) (now release)) ⌝ }
+    requires within { ⌜ free ≤ h ⌝ }
+    ensures { λ r. ⌜ FindsNext (now (image .entry)) n h (now (jobs .entry)) (now (slack .entry)) (now (next .entry)) (now (release .entry))
+        free idle (now (offsets .entry)) r ⌝ }
 {
     let none = [0u32; 16];
     let mut nowhere = [0u8; 0];
@@ -209,8 +207,12 @@ pub fn one_start(
 
 // What a cycle begins with of each task, into lent arrays of zeros: the release of its job 0, its time and its period.
 fn fill_from(s: TaskSet, release: &mut [u32; 16], times: &mut [u32; 16], periods: &mut [u32; 16])
-    requires { ⌜ (now release ≡ zeros) × (now times ≡ zeros) × (now periods ≡ zeros) ⌝ }
-    ensures { λ _. ⌜ (now (release .exit) ≡ first-releases s) × (now (times .exit) ≡ times-of s) × (now (periods .exit) ≡ periods-of s) ⌝ }
+    requires release { ⌜ now release ≡ zeros ⌝ }
+    requires times { ⌜ now times ≡ zeros ⌝ }
+    requires periods { ⌜ now periods ≡ zeros ⌝ }
+    ensures release { λ _. ⌜ now (release .exit) ≡ first-releases s ⌝ }
+    ensures times { λ _. ⌜ now (times .exit) ≡ times-of s ⌝ }
+    ensures periods { λ _. ⌜ now (periods .exit) ≡ periods-of s ⌝ }
 {
     let mut i: usize = 0;
     while i < 16 {
@@ -235,9 +237,9 @@ pub fn cycle(
     out: &mut [u8],
     at: usize,
 ) -> Run
-    requires { ⌜ CanReplay (now image) s h (now jobs) (now slack) first × (all ≡ all-jobs h (tasks-of s)) ⌝ }
-    ensures { λ r. ⌜ (r ≡ run-told (cycle-of (now (image .entry)) s h first))
-        × (now (out .exit) ≡ entries-from (now (out .entry)) at (cycle-of (now (image .entry)) s h first .entries)) ⌝ }
+    requires can { ⌜ CanReplay (now image) s h (now jobs) (now slack) first ⌝ }
+    requires all { ⌜ all ≡ all-jobs h (tasks-of s) ⌝ }
+    ensures { λ r. ⌜ Ran (cycle-of (now (image .entry)) s h first) (now (out .entry)) at r (now (out .exit)) ⌝ }
 {
     let n = s.n as usize;
     let next = [0u32; 16];

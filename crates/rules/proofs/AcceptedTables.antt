@@ -56,7 +56,7 @@ module _ (ts : List Task) (X : Tables) (τ : List Entry) (judged : judge-tables 
 
   module _ (bytes : List ℕ) (are-bytes : Bytes bytes) (read : read-tables bytes ≡ gives (record { tasks = ts; tables = X })) where
     -- in an image they stand behind the tasks
-    stand : Stand bytes ts X (records-before ts X)
+    pub stand : Stand bytes ts X (records-before ts X)
     stand = read-stand bytes ts X are-bytes read (no-faults .0) (no-faults .1)
 
     -- the dispatcher goes by them

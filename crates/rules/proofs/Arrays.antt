@@ -1,13 +1,16 @@
 -- Small laws of lists that hold slots, tasks or records, used by all crates: what stands at a place, and how long a list is. Assumes nothing.
 use mathlib.Core.Path.{_≡_, refl, sym, _∙_, ap}
 use mathlib.Core.List.{List, [], _∷_, map}
-use Prim.Native.Nat.{ℕ, zero, suc, _≤_, _<_}
+use Prim.Native.Nat.{ℕ, zero, suc, _-_, _≤_, _<_}
 use native.Mathlib.Omega.{arith}
-use lib.ListN.{length, getD, take, drop, replicate, length-map}
+use lib.ListN.{length, getD, take, drop, replicate, length-map, length-append, length-replicate}
 use lib.Seq.{drop-cons, getD-take}
 use Rattle.rules.specs.declared.Task.{Task}
-use Rattle.rules.specs.Tasks.{task}
-use Rattle.rules.specs.Priority.{slot}
+use Rattle.rules.specs.Tasks.{limits, task}
+use Rattle.rules.specs.Priority.{slot, start-job}
+use Rattle.rules.specs.Setting.{Tables}
+use Rattle.rules.specs.Offsets.{put-slot, inversion-offsets, first-offsets}
+use Rattle.rules.specs.Dispatcher.{front}
 use Rattle.rules.specs.Marks.{Mark, size}
 use Rattle.rules.specs.Framing.{read}
 use Rattle.rules.proofs.PriorityLaws.{slot-empty}
@@ -43,3 +46,35 @@ task-in-slot slots n i d room l = getD-take n slots i _ l ∙ inside-alike slots
 pub read-length : (m : Mark) (many : ℕ) (bytes : List ℕ) → length (read m many bytes) ≡ many
 read-length m zero bytes = refl
 read-length m (suc many) bytes = ap suc (read-length m many (drop (size m) bytes))
+
+-- a job that starts in one of the slots leaves as many
+pub start-length : (x : List ℕ) (i : ℕ) → i < length x → length (start-job x i) ≡ length x
+start-length [] i l = absurd (omega arith)
+start-length (a ∷ x) zero l = refl
+start-length (a ∷ x) (suc i) l = ap suc (start-length x i (omega arith))
+
+-- and so does another number in one of them
+pub put-length : (x : List ℕ) (i v : ℕ) → i < length x → length (put-slot x i v) ≡ length x
+put-length [] i v l = absurd (omega arith)
+put-length (a ∷ x) zero v l = refl
+put-length (a ∷ x) (suc i) v l = ap suc (put-length x i v (omega arith))
+
+-- and other numbers in the first n
+pub front-length : (n : ℕ) (a b : List ℕ) → n ≤ length b → length (front n a b) ≡ length b
+front-length zero a b l = refl
+front-length (suc n) a [] l = absurd (omega arith)
+front-length (suc n) a (k ∷ b) l = ap suc (front-length n _ b (omega arith))
+
+-- the offsets as at a cycle's start fill all slots
+offsets-length : (ts : List Task) (X : Tables) (i many : ℕ) → length (inversion-offsets ts X i many) ≡ many
+offsets-length ts X i zero = refl
+offsets-length ts X i (suc many) = ap suc (offsets-length ts X (suc i) many)
+
+pub first-length : (ts : List Task) (X : Tables) → length ts ≤ limits .tasks → length (first-offsets ts X .inversions) ≡ limits .tasks
+first-length ts X l =
+    omega (
+      arith,
+      length-append (inversion-offsets ts X 0 (length ts)) (replicate (limits .tasks - length ts) 0),
+      offsets-length ts X 0 (length ts),
+      length-replicate {A = ℕ} (limits .tasks - length ts) 0,
+    )

@@ -14,23 +14,23 @@ use Rattle.rules.specs.Refusals.{Judged, gives, then}
 use Rattle.rules.specs.Priority.{setting}
 use Rattle.rules.specs.Judging.{judge-tables}
 use Rattle.rules.specs.Operations.{Tabled, Timed, read-tables, rebuild-from, check-answer, check-tables}
-use Rattle.rules.specs.Offsets.{NextStart, next-is, stuck, next-start, lent}
-use Rattle.rules.specs.Dispatcher.{set-of, stopped, refused, zeros, started, fresh, begin-accepted, begin-framed, begin}
+use Rattle.rules.specs.Offsets.{lent, Standing, NextStart, next-is, stuck, next-start}
+use Rattle.rules.specs.Dispatcher.{set-of, stopped, refused, started, start-next, fresh, at-begin, begin-accepted, begin-framed, begin}
 use Rattle.rules.proofs.Cases.{by-judged, clash}
 
 -- a next start that is not found leaves the stopped state
-stuck-stopped : (bytes : List ℕ) (s : State) (c : ℕ) (x offsets : List ℕ) (n : NextStart) (r : Refusal) →
-    started bytes s c x offsets n .answer ≡ Refused r → started bytes s c x offsets n .state ≡ stopped
-stuck-stopped bytes s c x offsets (next-is i t o) r e = clash (cc)
-stuck-stopped bytes s c x offsets (stuck number) r e = refl
+stuck-stopped : (bytes : List ℕ) (s : State) (c : ℕ) (a : Standing (List ℕ)) (r : Refusal) → start-next bytes s c a .answer ≡ Refused r →
+    start-next bytes s c a .state ≡ stopped
+stuck-stopped bytes s c a r = by-found (next-start (setting (set-of s)) (lent bytes (set-of s)) a)
+  where
+    by-found : (n : NextStart) → started bytes s c a n .answer ≡ Refused r → started bytes s c a n .state ≡ stopped
+    by-found (next-is i t o) e = clash (cc)
+    by-found (stuck number) e = refl
 
 module _ (bytes : List ℕ) where
-  -- the first start of an image that is accepted, and the turn that makes it
-  abbrev first-start : Tabled → NextStart
-  first-start i = next-start (setting (set-of (fresh i))) (lent bytes (set-of (fresh i))) zeros 0 (fresh i .now .inversions) (fresh i .now .idle)
-
+  -- the turn that makes the first start of an image that is accepted
   abbrev first-turn : Tabled → Turn
-  first-turn i = started bytes (fresh i) 0 zeros (fresh i .now .inversions) (first-start i)
+  first-turn i = start-next bytes (fresh i) 0 (at-begin (fresh i))
 
   -- how beginning comes about: table checking refuses the image, or accepts it and the first start is looked for
   by-beginning : {A : Type 0} → ((r : Refusal) → check-tables bytes ≡ check-case.Refused r → begin bytes ≡ refused r stopped → A) →
@@ -64,4 +64,4 @@ module _ (bytes : List ℕ) where
   refused-stopped r e =
       by-beginning (λ q c b. ap (λ (t : Turn). t .state) b)
       (λ i c b. ap (λ (t : Turn). t .state) b
-      ∙ stuck-stopped bytes (fresh i) 0 zeros (fresh i .now .inversions) (first-start i) r (sym (ap (λ (t : Turn). t .answer) b) ∙ e))
+      ∙ stuck-stopped bytes (fresh i) 0 (at-begin (fresh i)) r (sym (ap (λ (t : Turn). t .answer) b) ∙ e))

@@ -10,7 +10,7 @@ use Rattle.rules.specs.declared.Refusal.{Refusal}
 use Rattle.rules.specs.Refusals.{Judged, gives, refuses, or-else, then, first, unless}
 use Rattle.rules.specs.Tasks.{both}
 use Rattle.rules.specs.Setting.{Act, run, wait}
-use Rattle.rules.specs.Decision.{Choice, idle-for, start-task, wait-till}
+use Rattle.rules.specs.Decision.{Choice, idle-for, start-task, wait-till, Effect, idles-till, starts, waits-till, stops}
 
 pub by-bool {ℓ} : {A : Type ℓ} (b : Bool) → (b ≡ true → A) → (b ≡ false → A) → A
 by-bool true p q = p refl
@@ -45,6 +45,13 @@ module _ {A : Type 0} where
   by-choice (idle-for l) p q r = p l refl
   by-choice (start-task i) p q r = q i refl
   by-choice (wait-till w) p q r = r w refl
+
+  pub by-step : (s : Effect) → ((r : ℕ) → s ≡ idles-till r → A) → ((i t : ℕ) → s ≡ starts i t → A) → ((r : ℕ) → s ≡ waits-till r → A) →
+      ((number : ℕ) → s ≡ stops number → A) → A
+  by-step (idles-till r) p q u v = p r refl
+  by-step (starts i t) p q u v = q i t refl
+  by-step (waits-till r) p q u v = u r refl
+  by-step (stops number) p q u v = v number refl
 
   pub by-nat : (n : ℕ) → (n ≡ 0 → A) → ((m : ℕ) → n ≡ suc m → A) → A
   by-nat zero p q = p refl

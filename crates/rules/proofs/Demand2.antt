@@ -94,7 +94,7 @@ module _ {bytes : List ℕ} {ts : List Task} {τ : List Entry} (t : TimetableIma
 
 module _ {bytes : List ℕ} {ts : List Task} {τ : List Entry} (t : TableImage bytes ts τ) where
   -- the tables of a table image are the derived ones
-  tables-are : bytes ≡ table-image ts (tables ts τ)
+  pub tables-are : bytes ≡ table-image ts (tables ts τ)
   tables-are = t .is ∙ ap (table-image ts) (one-table (t .good) (t .valid) (t .has))
 
   -- rebuilding gives the set of a table image and the timetable behind its tables
@@ -108,6 +108,10 @@ module _ {bytes : List ℕ} {ts : List Task} {τ : List Entry} (t : TableImage b
   -- which is the image of that timetable
   image-of-timetable : TimetableImage (timetable-image ts τ) ts τ
   image-of-timetable = record { h = t .h; good = t .good; valid = t .valid; is = refl }
+
+  -- and is read as that set and that timetable
+  pub rebuilt-reads : read-timetable (timetable-image ts τ) ≡ gives (record { tasks = ts; entries = τ })
+  rebuilt-reads = timetable-read (t .good) (t .valid)
 
 -- there is one set and one timetable behind tables
 pub one-timetable-behind : {bytes : List ℕ} {ts us : List Task} {τ σ : List Entry} → TableImage bytes ts τ → TableImage bytes us σ → (ts ≡ us) × (τ ≡ σ)
@@ -167,7 +171,7 @@ into-gives : (room : ℕ) (bytes result : List ℕ) → into room bytes ≡ give
 into-gives room bytes result e = sym (gives-in bytes result (or-else-gives (unless (leb (length bytes) room) 20 0) (gives bytes) result e .1))
 
 -- and with room for it the output takes it
-into-fits : (room : ℕ) (bytes : List ℕ) → length bytes ≤ room → into room bytes ≡ gives bytes
+pub into-fits : (room : ℕ) (bytes : List ℕ) → length bytes ≤ room → into room bytes ≡ gives bytes
 into-fits room bytes l = rw (le-leb (length bytes) room l)
 
 -- an answer with a length: there is a result, and the front of the output is that result
@@ -177,7 +181,7 @@ made-gives (gives result) old n e = (result, refl, take-at result _ n (cc))
 made-gives (refuses r) old n e = clash (cc)
 
 -- where there is a result, its length is answered, and it fills the front of the output
-gives-made : (z : Judged (List ℕ)) (result out : List ℕ) → z ≡ gives result →
+pub gives-made : (z : Judged (List ℕ)) (result out : List ℕ) → z ≡ gives result →
     (make-answer z ≡ Made (length result)) × (output-after z out ≡ result ++ drop (length result) out)
 gives-made z result out e = (rw e, rw e)
 

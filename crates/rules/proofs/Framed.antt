@@ -20,7 +20,7 @@ use Rattle.rules.specs.Image.{Record, record-of, written, image}
 use Rattle.rules.specs.Framing.{start-place, allowed, if-allowed, goes-on, ends, after, frame-records, index-of-end, nothing-follows, frame}
 use Rattle.rules.proofs.Cases.{clash, then-gives, or-else-gives, unless-none, gives-in, both-in}
 use Rattle.rules.proofs.Marked.{mark-found, mark-bytes, found-allowed}
-use Rattle.rules.proofs.FramingTurns.{After, past-end, by-after, moves, Whole, Frames, too-short, unmarked, cut-off, stops, goes, frames, framed}
+use Rattle.rules.proofs.FramingTurns.{After, past-end, by-after, moves, WholeAllowed, Frames, too-short, unmarked, cut-off, stops, goes, frames, framed}
 
 -- a record has the bytes of its mark and its body
 pub written-length : (m : Mark) (v : List ℕ) → length (written (record-of m v)) ≡ size m
@@ -53,7 +53,7 @@ pub data Runs (kind : ℕ) : Place → List Record → Layout → Type 0 where
       Runs kind s (record-of m v ∷ rs) l
 
 -- a record that may stand at a place is framed there
-stands-whole : {kind : ℕ} {s : Place} (m : Mark) (v rest : List ℕ) → Stands kind s m v → Whole kind s (written (record-of m v) ++ rest) m
+stands-whole : {kind : ℕ} {s : Place} (m : Mark) (v rest : List ℕ) → Stands kind s m v → WholeAllowed kind s (written (record-of m v) ++ rest) m
 stands-whole m v rest o = record {
   marked = rw (mark-found m, o .may, if-allowed);
   not-cut = omega (arith, length-append (written (record-of m v)) rest, written-length m v);
@@ -82,7 +82,7 @@ record-bytes m (a ∷ b ∷ bytes) h l p q =
     sym (take-append-drop (total ws) bytes) ∙ ap (λ (x : List ℕ). x ++ drop (total ws) bytes) (sym (body-values ws bytes (h .1 .1) (omega arith))) in
     cc
 
-module _ {kind : ℕ} {s : Place} (bytes : List ℕ) (m : Mark) (h : Bytes bytes) (w : Whole kind s bytes m) where
+module _ {kind : ℕ} {s : Place} (bytes : List ℕ) (m : Mark) (h : Bytes bytes) (w : WholeAllowed kind s bytes m) where
   -- a whole record at the front of bytes is written as it was read
   front-is : bytes ≡ written (record-of m (values m bytes)) ++ drop (size m) bytes
   front-is = let a = found-allowed kind s bytes m (w .marked) in record-bytes m bytes h (w .not-cut) (a .first-byte) (a .second-byte)

@@ -13,14 +13,14 @@ use borrow.Author.Tests.{leb-true, leb-false, le-leb, eqb-true, eqb-false}
 use Rattle.rules.specs.declared.Place.{Place}
 use Rattle.rules.specs.declared.Layout.{Layout}
 use Rattle.rules.specs.declared.Refusal.{Refusal}
-use Rattle.rules.specs.Refusals.{Judged, gives, refuses, refusal, or-else, then, unless, Test, test, First, no-test, holds, passes}
+use Rattle.rules.specs.Refusals.{Judged, gives, refuses, refusal, or-else, then, unless, Test, test, First, no-test, holds, passes, refusal-in}
 use Rattle.rules.specs.Tasks.{few-enough, limits}
 use Rattle.rules.specs.Priority.{slot}
 use Rattle.rules.specs.Marks.{Mark, TS, TK, SL, ID, PV, EN, row, size, values}
 use Rattle.rules.specs.Framing.{start-place, layout-at, allowed, mark-at, head-fault, tasks-due, goes-on, ends, after, frame-records, index-of-end, frame, Allowed, framing-tests, RefusesFraming, this-record, later-record}
 use Rattle.rules.proofs.Cases.{clash, differ, by-le, both-true, both-in}
 use Rattle.rules.proofs.Marked.{turn-of, due-turn, later-turn, found-allowed, allowed-found, one-allowed}
-use Rattle.rules.proofs.FramingTurns.{After, past-head, bad-head, past-task, past-entry, past-idle, past-inversion, past-end, bad-end, by-after, moves, Whole, Frames, too-short, unmarked, cut-off, stops, goes, frames, frame-goes}
+use Rattle.rules.proofs.FramingTurns.{After, past-head, bad-head, past-task, past-entry, past-idle, past-inversion, past-end, bad-end, by-after, moves, WholeAllowed, Frames, too-short, unmarked, cut-off, stops, goes, frames, frame-goes}
 use Rattle.rules.proofs.FirstTests.{NoneHolds, none-holds, one-first, first-then, first-unless}
 
 -- what holds at every place that framing reaches: TS is the first record, as many TK records are due as are missing, and behind them the index counts
@@ -68,11 +68,6 @@ after-reached {kind} {s} r past-inversion a =
 -- what framing makes of the records up to EN, in an image of so many bytes: nothing may follow EN
 abbrev finished : ℕ → Judged Layout → Judged Layout
 finished whole z = then z (λ (l : Layout). or-else (unless (leb whole (l .ended)) 10 (index-of-end l)) (gives l))
-
--- the refusal, if there is one
-abbrev refusal-in : Judged Layout → Option Refusal
-refusal-in (gives l) = none
-refusal-in (refuses r) = some r
 
 -- where there is one, that is what framing answers
 refusal-is : (z : Judged Layout) (r : Refusal) → refusal-in z ≡ some r → z ≡ refuses r
@@ -139,7 +134,7 @@ module _ (kind : ℕ) (s : Place) (bytes : List ℕ) where
     neither h k = first-then (no-head h) (λ _. no-end k)
 
   -- a whole record with an allowed mark passes the tests that come before its own
-  whole-order : (m : Mark) {o : Option Refusal} → Whole kind s bytes m → First (head-tests kind s bytes ++ end-tests kind s bytes) o →
+  whole-order : (m : Mark) {o : Option Refusal} → WholeAllowed kind s bytes m → First (head-tests kind s bytes ++ end-tests kind s bytes) o →
       First (framing-tests kind s bytes) o
   whole-order m w own =
       let a = found-allowed kind s bytes m (w .marked) in
@@ -240,7 +235,7 @@ refuses-tests : {kind : ℕ} {s : Place} {bytes : List ℕ} {r : Refusal} → Re
 refuses-tests {kind} (this-record {s = s} {bytes = bytes} {r = r} p) whole e w = this-refuses (tests-of whole e w (frames kind s bytes)) r p
 refuses-tests {kind} (later-record {s = s} {t = t} {bytes = bytes} {m = m} p a g q) whole e w =
     let none-hold = none-holds p refl in
-    let front : Whole kind s bytes m =
+    let front : WholeAllowed kind s bytes m =
     record {
       marked = allowed-found kind s bytes m a;
       not-cut = by-le (size m) (length bytes) (λ h. h) (λ h. absurd (none-hold .1 .1 .0 (m, a, h)));

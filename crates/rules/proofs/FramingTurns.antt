@@ -55,7 +55,7 @@ moves past-idle = (refl, refl)
 moves past-inversion = (refl, refl)
 
 -- a whole record with an allowed mark stands at the front
-pub record Whole (kind : ℕ) (s : Place) (bytes : List ℕ) (m : Mark) : Type 0 where
+pub record WholeAllowed (kind : ℕ) (s : Place) (bytes : List ℕ) (m : Mark) : Type 0 where
   pub marked : mark-at kind s bytes ≡ some m
   pub not-cut : size m ≤ length bytes
 
@@ -65,9 +65,9 @@ pub data Frames (kind : ℕ) : Place → List ℕ → Judged Layout → Type 0 w
   unmarked : {s : Place} {bytes : List ℕ} → 2 ≤ length bytes → mark-at kind s bytes ≡ none → Frames kind s bytes (refuses (refusal 2 (s .index)))
   cut-off : {s : Place} {bytes : List ℕ} {m : Mark} → 2 ≤ length bytes → mark-at kind s bytes ≡ some m → length bytes < size m →
       Frames kind s bytes (refuses (refusal 1 (s .index)))
-  stops : {s : Place} {bytes : List ℕ} {m : Mark} {z : Judged Layout} → Whole kind s bytes m → after kind s m (values m bytes) ≡ ends z →
+  stops : {s : Place} {bytes : List ℕ} {m : Mark} {z : Judged Layout} → WholeAllowed kind s bytes m → after kind s m (values m bytes) ≡ ends z →
       Frames kind s bytes z
-  goes : {s t : Place} {bytes : List ℕ} {m : Mark} {z : Judged Layout} → Whole kind s bytes m → after kind s m (values m bytes) ≡ goes-on t →
+  goes : {s t : Place} {bytes : List ℕ} {m : Mark} {z : Judged Layout} → WholeAllowed kind s bytes m → after kind s m (values m bytes) ≡ goes-on t →
       Frames kind t (drop (size m) bytes) z → Frames kind s bytes z
 
 -- with enough turns, framing comes to its answer in one of these ways
@@ -78,7 +78,7 @@ frames-from (suc turns) kind s bytes h =
     (λ two. by-option (mark-at kind s bytes) (λ e. rw (two, e, frame-from) (unmarked (leb-true _ _ two) e))
     (λ m e. by-bool (leb (size m) (length bytes))
     (λ w.
-    let here : Whole kind s bytes m = record { marked = e; not-cut = leb-true _ _ w } in
+    let here : WholeAllowed kind s bytes m = record { marked = e; not-cut = leb-true _ _ w } in
     by-next (after kind s m (values m bytes))
     (λ t a. rw (two, e, w, a, frame-from) (goes here a (frames-from turns kind t (drop (size m) bytes) (omega (arith, length-drop (size m) bytes)))))
     (λ z a. rw (two, e, w, a, frame-from) (stops here a)))
@@ -128,10 +128,10 @@ module _ (kind : ℕ) (s : Place) (bytes : List ℕ) where
     frame-cut-off h e c = framed (cut-off h e c)
 
     -- a whole record that ends framing
-    pub frame-stops : (z : Judged Layout) → Whole kind s bytes m → after kind s m (values m bytes) ≡ ends z → frame-records kind s bytes ≡ z
+    pub frame-stops : (z : Judged Layout) → WholeAllowed kind s bytes m → after kind s m (values m bytes) ≡ ends z → frame-records kind s bytes ≡ z
     frame-stops z w a = framed (stops w a)
 
     -- a whole record behind which framing goes on
-    pub frame-goes : (t : Place) → Whole kind s bytes m → after kind s m (values m bytes) ≡ goes-on t →
+    pub frame-goes : (t : Place) → WholeAllowed kind s bytes m → after kind s m (values m bytes) ≡ goes-on t →
         frame-records kind s bytes ≡ frame-records kind t (drop (size m) bytes)
     frame-goes t w a = framed (goes w a (frames kind t (drop (size m) bytes)))

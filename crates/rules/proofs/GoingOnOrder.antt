@@ -1,9 +1,9 @@
 -- Going on refuses by the first of the document's tests whose condition holds, with place 0, and leaves the state that the refusal's number says; for
 -- every state, all bytes and every reported end. Assumes nothing.
 use mathlib.Core.Path.{_≡_, refl, sym, _∙_}
-use mathlib.Core.Bool.{Bool, true, false}
+use mathlib.Core.Bool.{false}
 use mathlib.Core.List.{List, [], _∷_}
-use Prim.Native.Nat.{ℕ, suc, _+_, _≤_, _<_}
+use Prim.Native.Nat.{ℕ, suc, _≤_, _<_}
 use native.Mathlib.Omega.{arith}
 use lib.Dec.{ltb}
 use borrow.Author.Tests.{ltb-true, ltb-false}
@@ -12,57 +12,65 @@ use Rattle.rules.specs.declared.StartAnswer.the-variants.{Refused}
 use Rattle.rules.specs.declared.Dispatcher.{Dispatcher as State}
 use Rattle.rules.specs.declared.Turn.{Turn}
 use Rattle.rules.specs.Refusals.{refusal, test, First, no-test, holds, passes}
-use Rattle.rules.specs.Tasks.{hyperperiod, task}
+use Rattle.rules.specs.Tasks.{hyperperiod}
 use Rattle.rules.specs.Priority.{all-started, setting}
-use Rattle.rules.specs.Offsets.{lent, next-start}
-use Rattle.rules.specs.Dispatcher.{is-stopped, set-of, possible, began, latest-end, front, refused, started, start-next, last-cycle, next-turn, go-on}
-use Rattle.rules.specs.GoingOn.{Stopped, StuckAt, PossibleState, CycleDone, StuckNext, next-cycle, same-cycle, going-tests, refusal-in, Leaves, end-before-start, end-too-late, was-stopped, all-done, impossible}
+use Rattle.rules.specs.Offsets.{lent, Standing, next-start}
+use Rattle.rules.specs.Dispatcher.{is-stopped, set-of, possible, began, latest-end, refused, started, start-next, last-cycle, after-running, at-cycle-start, next-turn, go-on}
+use Rattle.rules.specs.GoingOn.{Stopped, StuckAt, PossibleState, CycleDone, StuckNext, next-cycle, same-cycle, going-tests, start-refusal, Leaves, end-before-start, end-too-late, was-stopped, all-done, impossible}
 use Rattle.rules.proofs.Cases.{by-bool, clash, differ}
 use Rattle.rules.proofs.StuckStarts.{by-next, stuck-at, start-not-stuck}
+use Rattle.rules.proofs.Shown.{slot-front}
+use Rattle.rules.proofs.GoodSets.{good-set, set-good, good-rules, some-jobs}
+use Rattle.rules.proofs.PriorityLaws.{left-not-all}
 use Rattle.rules.proofs.PossibleStates.{is-possible, possible-is, stopped-says, says-stopped, cycle-done, done-cycle}
 
 module _ (bytes : List ℕ) (s : State) where
+  -- in the next cycle there is a job left
+  left-in-next-cycle : PossibleState s → all-started (hyperperiod (set-of s)) (set-of s) (at-cycle-start s .next) ≡ false
+  left-in-next-cycle p =
+      let g = set-good (set-of s) (p .h) (p .good-set) in
+      let k = good-set (set-of s) (g .0) in
+      left-not-all (hyperperiod (set-of s)) (set-of s) (at-cycle-start s .next) 0 (k .some-tasks)
+      (omega (arith, slot-front (s .set .n) [] (s .next) 0 (p .some-tasks), some-jobs k 0 (k .some-tasks)))
+
   -- 25 for bytes, where the next start is looked for from one place
-  start-order : (c : ℕ) (x : List ℕ) (f : ℕ) (offsets : List ℕ) (o : ℕ) →
-      (StuckAt (set-of s) (lent bytes (set-of s)) x f offsets o → StuckNext bytes s) →
-      (StuckNext bytes s → StuckAt (set-of s) (lent bytes (set-of s)) x f offsets o) →
-      First (test 25 0 (StuckNext bytes s) ∷ []) (refusal-in (start-next bytes s c x f offsets o .answer))
-  start-order c x f offsets o to from =
-      by-next (next-start (setting (set-of s)) (lent bytes (set-of s)) x f offsets o)
-      (λ i t w e. rw (e, started) (passes (λ z. start-not-stuck bytes (set-of s) e (from z)) no-test))
-      (λ number e. rw (e, started) (holds (to (stuck-at bytes (set-of s) x f offsets o number e))))
+  start-order : (c : ℕ) (a : Standing (List ℕ)) → PossibleState s → all-started (hyperperiod (set-of s)) (set-of s) (a .next) ≡ false →
+      (StuckAt (set-of s) (hyperperiod (set-of s)) (lent bytes (set-of s)) a → StuckNext bytes s) →
+      (StuckNext bytes s → StuckAt (set-of s) (hyperperiod (set-of s)) (lent bytes (set-of s)) a) →
+      First (test 25 0 (StuckNext bytes s) ∷ []) (start-refusal (start-next bytes s c a .answer))
+  start-order c a p left to from =
+      let keep = good-rules (p .good-set) in
+      by-next (next-start (setting (set-of s)) (lent bytes (set-of s)) a)
+      (λ i t w e. rw (e, started) (passes (λ z. start-not-stuck bytes (set-of s) keep e (from z)) no-test))
+      (λ number e. rw (e, started) (holds (to (stuck-at bytes (set-of s) keep a number left e))))
 
   -- what going on is stuck at, where the cycle is done and where it is not
-  stuck-next-cycle : CycleDone s → StuckNext bytes s →
-      StuckAt (set-of s) (lent bytes (set-of s)) (front (s .set .n) [] (s .next)) 0 (front (s .set .n) (s .first .inversions) (s .now .inversions)) (s .first .idle)
+  stuck-next-cycle : CycleDone s → StuckNext bytes s → StuckAt (set-of s) (hyperperiod (set-of s)) (lent bytes (set-of s)) (at-cycle-start s)
   stuck-next-cycle d (next-cycle d′ z) = z
   stuck-next-cycle d (same-cycle n z) = absurd (n d)
 
-  stuck-same-cycle : (CycleDone s → ⊥) → StuckNext bytes s →
-      StuckAt (set-of s) (lent bytes (set-of s)) (s .next) (s .running .start + task (set-of s) (s .running .task) .time) (s .now .inversions) (s .now .idle)
+  stuck-same-cycle : (CycleDone s → ⊥) → StuckNext bytes s → StuckAt (set-of s) (hyperperiod (set-of s)) (lent bytes (set-of s)) (after-running s)
   stuck-same-cycle n (next-cycle d z) = absurd (n d)
   stuck-same-cycle n (same-cycle n′ z) = z
 
   -- 24, then 25 for bytes
   next-order : PossibleState s →
-      First (test 24 0 (CycleDone s × (last-cycle ≤ s .cycle)) ∷ test 25 0 (StuckNext bytes s) ∷ []) (refusal-in (next-turn bytes s .answer))
+      First (test 24 0 (CycleDone s × (last-cycle ≤ s .cycle)) ∷ test 25 0 (StuckNext bytes s) ∷ []) (start-refusal (next-turn bytes s .answer))
   next-order p =
       by-bool (all-started (hyperperiod (set-of s)) (set-of s) (s .next))
       (λ a. let d : CycleDone s = cycle-done s p a in
       by-bool (ltb (s .cycle) last-cycle)
       (λ b. rw (a, b, next-turn)
       (passes (λ (c : CycleDone s × (last-cycle ≤ s .cycle)). omega (arith, c .1, ltb-true (s .cycle) last-cycle b))
-      (start-order (suc (s .cycle)) (front (s .set .n) [] (s .next)) 0 (front (s .set .n) (s .first .inversions) (s .now .inversions)) (s .first .idle)
-      (λ z. next-cycle d z) (λ z. stuck-next-cycle d z))))
+      (start-order (suc (s .cycle)) (at-cycle-start s) p (left-in-next-cycle p) (λ z. next-cycle d z) (λ z. stuck-next-cycle d z))))
       (λ b. let last : CycleDone s × (last-cycle ≤ s .cycle) = (d, ltb-false (s .cycle) last-cycle b) in rw (a, b, next-turn) (holds last)))
       (λ a. let n : CycleDone s → ⊥ = λ d. differ (sym (done-cycle s d) ∙ a) in
       rw (a, next-turn)
       (passes (λ (c : CycleDone s × (last-cycle ≤ s .cycle)). n (c .0))
-      (start-order (s .cycle) (s .next) (s .running .start + task (set-of s) (s .running .task) .time) (s .now .inversions) (s .now .idle)
-      (λ z. same-cycle n z) (λ z. stuck-same-cycle n z))))
+      (start-order (s .cycle) (after-running s) p a (λ z. same-cycle n z) (λ z. stuck-same-cycle n z))))
 
   -- exactly the first test in the document's order whose condition holds refuses, and none where a start is answered
-  pub going-order : (end : ℕ) → First (going-tests bytes s end) (refusal-in (go-on bytes s end .answer))
+  pub going-order : (end : ℕ) → First (going-tests bytes s end) (start-refusal (go-on bytes s end .answer))
   unfolding go-on
   going-order end =
       by-bool (is-stopped s) (λ a. rw (a, go-on) (holds (stopped-says s a)))
@@ -99,9 +107,9 @@ refused-leaves {s} {after} {number} l r e = let q : refusal number 0 ≡ r = cc 
 
 module _ (bytes : List ℕ) (s : State) where
   -- looking for the next start
-  start-leaves : (c : ℕ) (x : List ℕ) (f : ℕ) (offsets : List ℕ) (o : ℕ) → LeavesIfRefused s (start-next bytes s c x f offsets o)
-  start-leaves c x f offsets o =
-      by-next (next-start (setting (set-of s)) (lent bytes (set-of s)) x f offsets o) (λ i t w e. rw (e, started) (λ r q. clash (cc)))
+  start-leaves : (c : ℕ) (a : Standing (List ℕ)) → LeavesIfRefused s (start-next bytes s c a)
+  start-leaves c a =
+      by-next (next-start (setting (set-of s)) (lent bytes (set-of s)) a) (λ i t w e. rw (e, started) (λ r q. clash (cc)))
       (λ number e. rw (e, started) (refused-leaves impossible))
 
   -- a state that is possible, with an end that may be reported
@@ -109,11 +117,9 @@ module _ (bytes : List ℕ) (s : State) where
   next-leaves =
       by-bool (all-started (hyperperiod (set-of s)) (set-of s) (s .next))
       (λ a. by-bool (ltb (s .cycle) last-cycle)
-      (λ b. rw (a, b, next-turn)
-      (start-leaves (suc (s .cycle)) (front (s .set .n) [] (s .next)) 0 (front (s .set .n) (s .first .inversions) (s .now .inversions)) (s .first .idle)))
+      (λ b. rw (a, b, next-turn) (start-leaves (suc (s .cycle)) (at-cycle-start s)))
       (λ b. rw (a, b, next-turn) (refused-leaves all-done)))
-      (λ a. rw (a, next-turn)
-      (start-leaves (s .cycle) (s .next) (s .running .start + task (set-of s) (s .running .task) .time) (s .now .inversions) (s .now .idle)))
+      (λ a. rw (a, next-turn) (start-leaves (s .cycle) (after-running s)))
 
   -- a refusal of going on has place 0 and leaves the state that its number says
   pub going-leaves : (end : ℕ) (r : Refusal) → go-on bytes s end .answer ≡ Refused r → (r .place ≡ 0) × Leaves s (r .number) (go-on bytes s end .state)

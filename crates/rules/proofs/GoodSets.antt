@@ -1,5 +1,5 @@
 -- A good set is a set with no fault, and the first fault of a set is that of the first of the document's tests that refuses. Assumes nothing.
-use mathlib.Core.Path.{_≡_, refl}
+use mathlib.Core.Path.{_≡_}
 use mathlib.Core.Bool.{true}
 use mathlib.Core.List.{List, [], _∷_}
 use mathlib.Core.Option.{none}

@@ -28,7 +28,7 @@ use Rattle.rules.specs.Operations.{read-timetable, read-tables, derive-f
 use Rattle.rules.specs.Promised.{TimetableImage, TableImage, RefusesTimetableImage, RefusesTableImage}
 use Rattle.rules.proofs.Cases.{clash, first-none}
 use Rattle.rules.proofs.FirstTests.{one-first}
-use Rattle.rules.proofs.LateJobs.{late-refused, refused-late}
+use Rattle.rules.proofs.LateJobs.{late-refused, refused-late, replays-given, given-replays}
 use Rattle.rules.proofs.Differences.{differs-at, difference-found}
 use Rattle.rules.proofs.EntryOrder.{judged-timetable-order}
 use Rattle.rules.proofs.RecordOrder.{judged-records-order}
@@ -76,7 +76,7 @@ module _ (ts : List Task) (X : Tables) where
       (λ q. let (m, is, late) = refused-late ts X (a .0) (a .1) r q in rw is (RefusesTables.late-job f late))
       (λ τ q d. let s = refused-first (tables-differ (suc (length ts)) X (tables ts τ)) τ r d in
       let (m, is, differ) = differs-at (suc (length ts)) X (tables ts τ) r s in
-      rw (is, suc-add (length ts)) (RefusesTables.difference f q differ))
+      rw (is, suc-add (length ts)) (RefusesTables.difference f (given-replays ts X (a .0) (a .1) τ q) differ))
 
   -- where no test refuses, the set and the records have no fault
   records-pass : First (set-tests ts ++ record-tests ts (hyperperiod ts) X) none → first (set-fault ts) (records-fault ts (hyperperiod ts) X) ≡ none
@@ -90,7 +90,9 @@ module _ (ts : List Task) (X : Tables) where
       let a = first-none (set-fault ts) (records-fault ts (hyperperiod ts) X) n in
       rw (n, late-refused ts X (a .0) (a .1) m late)
   refuses-judged (RefusesTables.difference {m = m} {τ = τ} f q differ) =
-      rw (records-pass f, q, difference-found (suc (length ts)) X (tables ts τ) m differ, suc-add (length ts))
+      let n = records-pass f in
+      let a = first-none (set-fault ts) (records-fault ts (hyperperiod ts) X) n in
+      rw (n, replays-given ts X (a .0) (a .1) τ q, difference-found (suc (length ts)) X (tables ts τ) m differ, suc-add (length ts))
 
   -- tables are refused exactly by a test, then by a late job in replay, then by a difference
   pub tables-refused : (r : Refusal) → (judge-tables ts X ≡ refuses r) ↔ RefusesTables ts X r

@@ -3,8 +3,7 @@ use mathlib.Core.Path.{_≡_, sym, _∙_}
 use mathlib.Core.Logic.{_↔_}
 use mathlib.Core.Bool.{Bool, true, false}
 use mathlib.Core.List.{List, [], _∷_, List·Memᴰ, List·Memᴰ·not-nil}
-use mathlib.Core.Option.{none, some}
-use Prim.Native.Nat.{ℕ, zero, suc, _+_, _≤_, _<_}
+use Prim.Native.Nat.{ℕ, _+_, _≤_, _<_}
 use native.Mathlib.Omega.{arith}
 use lib.Dec.{leb}
 use lib.ListN.{length}
@@ -14,36 +13,19 @@ use Rattle.rules.specs.declared.Entry.{Entry}
 use Rattle.rules.specs.declared.Inversion.{Inversion}
 use Rattle.rules.specs.Tasks.{task, release, jobs, KeepsItsRule}
 use Rattle.rules.specs.Timetable.{entry-at}
-use Rattle.rules.specs.Setting.{lowest, lowest-from}
+use Rattle.rules.specs.Setting.{lowest}
 use Rattle.rules.specs.Priority.{slot, start-job, is-left, waiting, by-priority, setting-of}
 use Rattle.rules.specs.Irregularities.{NotStarted, IsInversion, runs, inversion-of, insert-unless, inversions}
 use Rattle.rules.specs.Order.{PairRises}
-use Rattle.rules.proofs.Cases.{by-bool, by-option, by-eq, by-le, differ, clash, both-true, both-in}
+use Rattle.rules.proofs.Cases.{by-bool, by-option, by-eq, by-le, differ, both-true, both-in}
 use Rattle.rules.proofs.Theory.{ValidFrom, finished, entry}
-use Rattle.rules.proofs.Lowest.{lowest-from-some}
+use Rattle.rules.proofs.Lowest.{lowest-from-some, below-lowest, none-lowest}
 use Rattle.rules.proofs.Pairs.{inversion-path}
 use Rattle.rules.proofs.PriorityLaws.{StartKeepsRules, keeps-rules, setting-laws}
 use Rattle.rules.proofs.Derived.{inversions-pairs}
 use Rattle.rules.proofs.RisingPairs.{inserted, kept, by-insert, pairs-rise, rise-pairs, same-records}
 use Rattle.rules.proofs.Positions.{Before, at-first, past-end, an-entry, is-entry, at-next}
 use Rattle.rules.proofs.ForcedIdle.{releases-rise, not-below-slot, next-not-started}
-
--- a number below the lowest that passes does not pass
-pub below-lowest : (m i : ℕ) (p : ℕ → Bool) (k : ℕ) → lowest-from m i p ≡ some k → (j : ℕ) → i ≤ j → j < k → p j ≡ false
-below-lowest zero i p k h j lo hi = clash (cc)
-below-lowest (suc m) i p k h j lo hi =
-    by-bool (p i)
-    (λ e. let g : some i ≡ some k = rw (e, lowest-from) at h in
-    let q : i ≡ k = cc in
-    absurd (omega arith))
-    (λ e. by-eq j i (λ q. rw q e) (λ q. below-lowest m (suc i) p k (rw (e, lowest-from) at h) j (omega arith) hi))
-
--- where there is no lowest, none passes
-pub none-lowest : (m i : ℕ) (p : ℕ → Bool) → lowest-from m i p ≡ none → (j : ℕ) → i ≤ j → j < i + m → p j ≡ false
-none-lowest zero i p h j lo hi = absurd (omega arith)
-none-lowest (suc m) i p h j lo hi =
-    by-bool (p i) (λ e. let g : some i ≡ none = rw (e, lowest-from) at h in clash (cc))
-    (λ e. by-eq j i (λ q. rw q e) (λ q. none-lowest m (suc i) p (rw (e, lowest-from) at h) j (omega arith) (omega arith)))
 
 module _ (ts : List Task) (h : ℕ) (x : List ℕ) (s i : ℕ) where
   -- a waiting task that the baseline does not run: a lower one is waiting

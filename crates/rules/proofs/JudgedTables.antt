@@ -12,7 +12,7 @@ use Rattle.rules.specs.declared.Task.{Task}
 use Rattle.rules.specs.declared.Entry.{Entry}
 use Rattle.rules.specs.Refusals.{gives, first, then}
 use Rattle.rules.specs.Tasks.{task, release, hyperperiod, set-fault}
-use Rattle.rules.specs.Setting.{Setting, Tables}
+use Rattle.rules.specs.Setting.{Tables}
 use Rattle.rules.specs.Priority.{slot, entry-breaks, setting-of, setting}
 use Rattle.rules.specs.Irregularities.{inversion-of}
 use Rattle.rules.specs.Decision.{replay}

@@ -2,12 +2,13 @@ pub mod Cases
 pub mod Theory
 pub mod Lowest
 pub mod Pairs
+pub mod Steps
 pub mod RoundTrip
 pub mod Derived
 pub mod Replayed
 pub mod PriorityLaws
+pub mod Decided
 pub mod Arrays
-pub mod NextStart
 pub mod Hyperperiod
 pub mod FirstTests
 pub mod GoodSets
@@ -35,6 +36,7 @@ pub mod Writable
 pub mod HasTables
 pub mod Demand2
 pub mod ImageOrder
+pub mod MakingOrder
 pub mod RefusalNumbers
 pub mod NextTurns
 pub mod StuckStarts
@@ -44,6 +46,7 @@ pub mod BeginOrder
 pub mod Shown
 pub mod Starts
 pub mod Slots
+pub mod SlotsAbove
 pub mod ShownAt
 pub mod StandingTables
 pub mod OneMoreStart
@@ -53,5 +56,6 @@ pub mod WastedRecords
 pub mod ServedCalls
 pub mod AcceptedTables
 pub mod Demand3
+pub mod StandingOffsets
 pub mod WorkedCases
 pub mod Promises

@@ -5,101 +5,89 @@ use mathlib.Core.List.{List}
 use mathlib.Core.Option.{Option, none, some}
 use Prim.Native.Nat.{ℕ, zero, suc, _+_, _≤_, _<_}
 use native.Mathlib.Omega.{arith}
-use lib.Dec.{ltb, leb, eqb}
-use borrow.Author.Tests.{ltb-true, leb-true, eqb-true}
+use lib.Dec.{leb}
+use borrow.Author.Tests.{ltb-true, leb-true}
 use Rattle.rules.specs.declared.Task.{Task}
 use Rattle.rules.specs.declared.Idle.{Idle}
+use Rattle.rules.specs.declared.Inversion.{Inversion}
 use Rattle.rules.specs.Tasks.{hyperperiod}
-use Rattle.rules.specs.Setting.{Setting, Act, run, wait, lowest, instant}
-use Rattle.rules.specs.Priority.{setting}
-use Rattle.rules.specs.Decision.{Choice, idle-for, start-task, wait-till, idle-at, as-baseline, recorded, start-or-baseline, decide}
+use Rattle.rules.specs.Setting.{Setting, wait, instant}
+use Rattle.rules.specs.Priority.{entry-breaks, setting}
+use Rattle.rules.specs.Decision.{Choice, idle-for, start-task, decide}
 use Rattle.rules.specs.Judging.{idle-in-range, inversion-in-range}
 use Rattle.rules.specs.Marks.{Mark, TS, TK, SL, ID, PV, EN, size}
 use Rattle.rules.specs.Image.{Record, to-idle, to-inversion}
-use Rattle.rules.specs.Offsets.{Shown, unreadable, no-record, shows, Source, record-at, shown-if, idle-by, idle-in, lent, idle-now, past-idle, next-is, stuck, all-readable, shown-delays, next-start-in, next-start}
-use Rattle.rules.proofs.Cases.{by-bool, by-choice, by-nat, clash, both-true}
-use Rattle.rules.proofs.PriorityLaws.{priority-runs}
+use Rattle.rules.specs.Offsets.{Shown, unreadable, no-record, shows, Source, record-at, shown-if, idle-by, idle-in, inversion-by, inversion-in, lent, idle-now, Standing, next-is, stuck, all-readable, shown-delays, shown-step, idled, waited, next-start-in, next-start}
+use Rattle.rules.proofs.Cases.{by-bool, by-choice, by-nat, by-step, clash, both-true}
+use Rattle.rules.proofs.Steps.{decide-idles, decide-waits, step-idles, step-starts, step-refuses, idles-forward, waits-forward, starts-forward}
+use Rattle.rules.proofs.Replayed.{idle-at-some}
+use Rattle.rules.proofs.PriorityLaws.{late-zero, StartKeepsRules, keeps-rules, priority-runs}
 
 -- a source that shows only idle records in their own range
 abbrev pub IdlesInRange : ℕ → Source → Type 0
 IdlesInRange h S = (o : ℕ) (r : Idle) (after : ℕ) → S .idle-shown o ≡ shows r after → (1 ≤ r .length) × (r .start + r .length < h)
 
 -- what is decided at an instant, by the records that the offsets show
-abbrev pub shown-choice : (G : Setting) → Source → G .Started → ℕ → List ℕ → ℕ → Choice
-shown-choice G S x t offsets o = decide G x t (idle-now (S .idle-shown o) t) (shown-delays G S x offsets)
+abbrev pub shown-choice : (G : Setting) → Source → Standing (G .Started) → ℕ → Choice
+shown-choice G S a t = decide G (a .next) t (idle-now (S .idle-shown (a .idle)) t) (shown-delays G S (a .next) (a .offsets))
 
 -- the idle record that an offset shows for an instant
-idle-now-some : {A : Type 0} (k : Shown Idle) (t l : ℕ) → idle-now k t ≡ some l →
+pub idle-now-some : {A : Type 0} (k : Shown Idle) (t l : ℕ) → idle-now k t ≡ some l →
     ((r : Idle) (after : ℕ) → k ≡ shows r after → r .start ≡ t → r .length ≡ l → A) → A
 idle-now-some unreadable t l e go = clash (cc)
 idle-now-some no-record t l e go = clash (cc)
-idle-now-some (shows r after) t l e go =
-    by-bool (eqb (r .start) t)
-    (λ b. let g : some (r .length) ≡ some l = rw (b, idle-at) at e in go r after refl (eqb-true (r .start) t b) (cc))
-    (λ b. let g : none ≡ some l = rw (b, idle-at) at e in clash (cc))
+idle-now-some (shows r after) t l e go = let a = idle-at-some r t l e in go r after refl (a .0) (a .1)
 
--- the baseline runs or waits
-baseline-never-idles : {A : Type 0} (a : Act) (l : ℕ) → as-baseline a ≡ idle-for l → A
-baseline-never-idles (run i) l e = clash (cc)
-baseline-never-idles (wait r) l e = clash (cc)
-
-baseline-waits : (a : Act) (r : ℕ) → as-baseline a ≡ wait-till r → a ≡ wait r
-baseline-waits (run i) r e = clash (cc)
-baseline-waits (wait w) r e = cc
-
-module _ (G : Setting) (x : G .Started) (t : ℕ) where
-  -- rules (2) and (3) never idle, and wait only as the baseline does
-  start-never-idles : {A : Type 0} (i : Option ℕ) (l : ℕ) → start-or-baseline G x t i ≡ idle-for l → A
-  start-never-idles none l e = baseline-never-idles (G .baseline x t) l e
-  start-never-idles (some i) l e = clash (cc)
-
-  start-waits : (i : Option ℕ) (r : ℕ) → start-or-baseline G x t i ≡ wait-till r → G .baseline x t ≡ wait r
-  start-waits none r e = baseline-waits (G .baseline x t) r e
-  start-waits (some i) r e = clash (cc)
-
-  -- a decision to idle takes the length of an idle record for this instant
-  decide-idles : (length : Option ℕ) (delay : ℕ → Option ℕ) (l : ℕ) → decide G x t length delay ≡ idle-for l → length ≡ some l
-  decide-idles none delay l e = start-never-idles (lowest (G .tasks) (recorded G delay x t)) l e
-  decide-idles (some k) delay l e = cc
-
-  -- a decision to wait is the baseline's
-  decide-waits : (length : Option ℕ) (delay : ℕ → Option ℕ) (r : ℕ) → decide G x t length delay ≡ wait-till r → G .baseline x t ≡ wait r
-  decide-waits none delay r e = start-waits (lowest (G .tasks) (recorded G delay x t)) r e
-  decide-waits (some k) delay r e = clash (cc)
+-- it is in its own range
+shown-in-range : (h : ℕ) (S : Source) → IdlesInRange h S → (o t l : ℕ) → idle-now (S .idle-shown o) t ≡ some l → (1 ≤ l) × (t + l < h)
+shown-in-range h S in-range o t l e =
+    idle-now-some (S .idle-shown o) t l e (λ r after q u v. (omega (arith, in-range o r after q), omega (arith, in-range o r after q)))
 
 module _ (G : Setting) (S : Source) (in-range : IdlesInRange (G .cycle-end) S)
     (waits-later : (x : G .Started) (t r : ℕ) → G .baseline x t ≡ wait r → t < r) (fits : G .cycle-end ≤ G .latest) where
-  -- an idle that is used is at least one tick long and ends in the cycle
-  pub idles-in-cycle : (x : G .Started) (t : ℕ) (offsets : List ℕ) (o l : ℕ) → shown-choice G S x t offsets o ≡ idle-for l →
-      (1 ≤ l) × (t + l < G .cycle-end)
-  idles-in-cycle x t offsets o l d =
-      idle-now-some (S .idle-shown o) t l (decide-idles G x t (idle-now (S .idle-shown o) t) (shown-delays G S x offsets) l d)
-      (λ r after e u v. (omega (arith, in-range o r after e), omega (arith, in-range o r after e)))
-
-  -- a wait ends later
-  waits-to-later : (x : G .Started) (t : ℕ) (offsets : List ℕ) (o r : ℕ) → shown-choice G S x t offsets o ≡ wait-till r → t < r
-  waits-to-later x t offsets o r d =
-      waits-later x t r (decide-waits G x t (idle-now (S .idle-shown o) t) (shown-delays G S x offsets) r d)
-
   -- any numbers of turns that reach past the end of the cycle give the same next start
-  pub enough-turns : (N K : ℕ) (x : G .Started) (f : ℕ) (offsets : List ℕ) (o : ℕ) → 1 ≤ N → 1 ≤ K → G .latest < N + f → G .latest < K + f →
-      next-start-in G S N x f offsets o ≡ next-start-in G S K x f offsets o
-  enough-turns zero K x f offsets o n k past-n past-k = absurd (omega arith)
-  enough-turns (suc N) zero x f offsets o n k past-n past-k = absurd (omega arith)
-  enough-turns (suc N) (suc K) x f offsets o n k past-n past-k =
-      let t : ℕ = instant G x f in
-      by-bool (all-readable G S offsets o)
-      (λ a. by-choice (shown-choice G S x t offsets o)
-      (λ l d. let w = idles-in-cycle x t offsets o l d in
-      rw (a, d, next-start-in)
-      (enough-turns N K x (t + l) offsets (past-idle (S .idle-shown o) o) (omega arith) (omega arith) (omega arith) (omega arith)))
-      (λ i d. rw (a, d, next-start-in))
-      (λ r d. let w : t < r = waits-to-later x t offsets o r d in
-      by-bool (ltb r (G .cycle-end))
-      (λ c. let b : r < G .cycle-end = ltb-true r (G .cycle-end) c in
-      rw (a, d, c, next-start-in) (enough-turns N K x r offsets o (omega arith) (omega arith) (omega arith) (omega arith)))
-      (λ c. rw (a, d, c, next-start-in))))
-      (λ a. rw (a, next-start-in))
+  pub enough-turns : (N K : ℕ) (a : Standing (G .Started)) → 1 ≤ N → 1 ≤ K → G .latest < N + a .free → G .latest < K + a .free →
+      next-start-in G S N a ≡ next-start-in G S K a
+  enough-turns zero K a n k past-n past-k = absurd (omega arith)
+  enough-turns (suc N) zero a n k past-n past-k = absurd (omega arith)
+  enough-turns (suc N) (suc K) a n k past-n past-k =
+      let idle : ℕ → Option ℕ = idle-now (S .idle-shown (a .idle)) in
+      let delay : ℕ → Option ℕ = shown-delays G S (a .next) (a .offsets) in
+      by-bool (all-readable G S (a .offsets) (a .idle))
+      (λ e. by-step (shown-step G S a)
+      (λ r s. let w = idles-forward G (a .next) (a .free) idle delay (shown-in-range (G .cycle-end) S in-range (a .idle)) r s in
+      rw (e, s, next-start-in) (enough-turns N K (idled G S a r) (omega arith) (omega arith) (omega arith) (omega arith)))
+      (λ i t s. rw (e, s, next-start-in))
+      (λ r s. let w = waits-forward G (a .next) (a .free) idle delay (waits-later (a .next)) r s in
+      rw (e, s, next-start-in) (enough-turns N K (waited G S a r) (omega arith) (omega arith) (omega arith) (omega arith)))
+      (λ number s. rw (e, s, next-start-in)))
+      (λ e. rw (e, next-start-in))
+
+-- a start that the search comes to breaks no rule
+next-breaks-none : (G : Setting) (S : Source) (turns : ℕ) (a : Standing (G .Started)) (i t o : ℕ) → next-start-in G S turns a ≡ next-is i t o →
+    G .breaks-in-replay (a .next) t i t ≡ 0
+next-breaks-none G S zero a i t o e = clash (cc)
+next-breaks-none G S (suc turns) a i t o e =
+    by-bool (all-readable G S (a .offsets) (a .idle))
+    (λ read. by-step (shown-step G S a)
+    (λ r s. next-breaks-none G S turns (idled G S a r) i t o (rw (read, s, next-start-in) at e))
+    (λ j u s.
+    let g : next-is j u (a .idle) ≡ next-is i t o = rw (read, s, next-start-in) at e in
+    let its : j ≡ i = cc in
+    let then : u ≡ t = cc in
+    rw (← its, ← then)
+    (starts-forward G (a .next) (a .free) (idle-now (S .idle-shown (a .idle))) (shown-delays G S (a .next) (a .offsets)) j u s .1))
+    (λ r s. next-breaks-none G S turns (waited G S a r) i t o (rw (read, s, next-start-in) at e))
+    (λ number s. let g : stuck number ≡ next-is i t o = rw (read, s, next-start-in) at e in clash (cc)))
+    (λ read. let g : stuck 25 ≡ next-is i t o = rw (read, next-start-in) at e in clash (cc))
+
+-- so that it is of a task of the set, which has a job left, released and in time; also where nobody has judged the records
+pub next-keeps-rules : (bytes : List ℕ) (ts : List Task) (a : Standing (List ℕ)) (i t o : ℕ) →
+    next-start (setting ts) (lent bytes ts) a ≡ next-is i t o → StartKeepsRules ts (hyperperiod ts) (a .next) t i t
+next-keeps-rules bytes ts a i t o e =
+    keeps-rules ts (hyperperiod ts) (a .next) t i t
+    (late-zero (entry-breaks ts (hyperperiod ts) (a .next) t i t)
+    (next-breaks-none (setting ts) (lent bytes ts) (suc (hyperperiod ts)) a i t o e))
 
 -- a record that is shown if it is in its own range
 shown-if-shows : {A B : Type 0} (b : Bool) (r r′ : B) (w w′ : ℕ) → shown-if b (shows r w) ≡ shows r′ w′ → (b ≡ true → r ≡ r′ → A) → A
@@ -128,59 +116,80 @@ lent-in-range bytes ts o r after e = in-record (record-at bytes o) e
     in-record none e = clash (cc)
     in-record (some c) e = in-mark (c .mark) (c .values) e
 
+-- and only inversion records in theirs
+pub lent-inversion-in-range : (bytes : List ℕ) (ts : List Task) (o : ℕ) (r : Inversion) (after : ℕ) → lent bytes ts .inversion-shown o ≡ shows r after →
+    inversion-in-range ts (hyperperiod ts) r ≡ true
+lent-inversion-in-range bytes ts o r after e = in-record (record-at bytes o) e
+  where
+    in-mark : (m : Mark) (v : List ℕ) → inversion-by ts o m v ≡ shows r after → inversion-in-range ts (hyperperiod ts) r ≡ true
+    in-mark TS v e = clash (cc)
+    in-mark TK v e = clash (cc)
+    in-mark SL v e = clash (cc)
+    in-mark ID v e = clash (cc)
+    in-mark PV v e =
+        shown-if-shows (inversion-in-range ts (hyperperiod ts) (to-inversion v)) (to-inversion v) r (o + size PV) after e (λ b u. rw (← u) b)
+    in-mark EN v e = clash (cc)
+
+    in-record : (c : Option Record) → inversion-in ts o c ≡ shows r after → inversion-in-range ts (hyperperiod ts) r ≡ true
+    in-record none e = clash (cc)
+    in-record (some c) e = in-mark (c .mark) (c .values) e
+
 -- the lowest waiting task starts: there is no waiting for a later instant
 never-waits : (ts : List Task) (x : List ℕ) (t r : ℕ) → setting ts .baseline x t ≡ wait r → t < r
 never-waits ts x t r e = absurd (priority-runs ts (hyperperiod ts) x t r e)
 
 -- document 01's setting over an image lent: one turn, at the instant t of its decision
-module _ (bytes : List ℕ) (ts : List Task) (x : List ℕ) (f t : ℕ) (offsets : List ℕ) (o : ℕ) (now : instant (setting ts) x f ≡ t) where
+module _ (bytes : List ℕ) (ts : List Task) (a : Standing (List ℕ)) (t : ℕ) (now : instant (setting ts) (a .next) (a .free) ≡ t) where
+  abbrev G : Setting
+  G = setting ts
+
+  abbrev S : Source
+  S = lent bytes ts
+
+  -- the idle record for an instant, and the delay of each task's next job
+  abbrev idle-shown : ℕ → Option ℕ
+  idle-shown = idle-now (S .idle-shown (a .idle))
+
+  abbrev delay-shown : ℕ → Option ℕ
+  delay-shown = shown-delays G S (a .next) (a .offsets)
+
   -- an offset shows nothing that may stand there
-  pub next-unreadable : all-readable (setting ts) (lent bytes ts) offsets o ≡ false → next-start (setting ts) (lent bytes ts) x f offsets o ≡ stuck 25
-  next-unreadable a = rw (a, next-start-in)
+  pub next-unreadable : all-readable G S (a .offsets) (a .idle) ≡ false → next-start G S a ≡ stuck 25
+  next-unreadable e = rw (e, next-start-in)
 
   -- the idle that is used is at least one tick long and ends in the cycle
-  pub idle-ends : (l : ℕ) → shown-choice (setting ts) (lent bytes ts) x t offsets o ≡ idle-for l → (1 ≤ l) × (t + l < hyperperiod ts)
-  idle-ends l d = idles-in-cycle (setting ts) (lent bytes ts) (lent-in-range bytes ts) (never-waits ts) (omega arith) x t offsets o l d
+  pub idle-ends : (l : ℕ) → shown-choice G S a t ≡ idle-for l → (1 ≤ l) × (t + l < hyperperiod ts)
+  idle-ends l d =
+      shown-in-range (hyperperiod ts) S (lent-in-range bytes ts) (a .idle) t l (decide-idles G (a .next) t (idle-shown t) delay-shown l d)
 
   -- an idle record is used: the next start is looked for from its end
-  pub next-idles : (l : ℕ) → all-readable (setting ts) (lent bytes ts) offsets o ≡ true → shown-choice (setting ts) (lent bytes ts) x t offsets o ≡ idle-for l →
-      next-start (setting ts) (lent bytes ts) x f offsets o
-      ≡ next-start (setting ts) (lent bytes ts) x (t + l) offsets (past-idle (lent bytes ts .idle-shown o) o)
-  next-idles l a d =
+  pub next-idles : (l : ℕ) → all-readable G S (a .offsets) (a .idle) ≡ true → shown-choice G S a t ≡ idle-for l →
+      next-start G S a ≡ next-start G S (idled G S a (t + l))
+  next-idles l e d =
       let w = idle-ends l d in
-      let d′ : shown-choice (setting ts) (lent bytes ts) x (instant (setting ts) x f) offsets o ≡ idle-for l = rw now d in
-      rw (a, d′, next-start-in) (rw now
-      (enough-turns (setting ts) (lent bytes ts) (lent-in-range bytes ts) (never-waits ts) (omega arith) (hyperperiod ts) (suc (hyperperiod ts)) x (t + l) offsets
-      (past-idle (lent bytes ts .idle-shown o) o) (omega arith) (omega arith) (omega arith) (omega arith)))
+      rw (e, step-idles G (a .next) (a .free) t idle-shown delay-shown now l d, next-start-in)
+      (enough-turns G S (lent-in-range bytes ts) (never-waits ts) (omega arith) (hyperperiod ts) (suc (hyperperiod ts)) (idled G S a (t + l)) (omega arith)
+      (omega arith) (omega arith) (omega arith))
 
   -- a task's next job starts
-  pub next-starts : (i : ℕ) → all-readable (setting ts) (lent bytes ts) offsets o ≡ true → shown-choice (setting ts) (lent bytes ts) x t offsets o ≡ start-task i →
-      setting ts .breaks-in-replay x t i t ≡ 0 → next-start (setting ts) (lent bytes ts) x f offsets o ≡ next-is i t o
-  next-starts i a d e =
-      let d′ : shown-choice (setting ts) (lent bytes ts) x (instant (setting ts) x f) offsets o ≡ start-task i = rw now d in
-      let e′ : setting ts .breaks-in-replay x (instant (setting ts) x f) i (instant (setting ts) x f) ≡ 0 = rw now e in
-      rw (a, d′, e′, next-start-in) (rw now)
+  pub next-starts : (i : ℕ) → all-readable G S (a .offsets) (a .idle) ≡ true → shown-choice G S a t ≡ start-task i →
+      G .breaks-in-replay (a .next) t i t ≡ 0 → next-start G S a ≡ next-is i t (a .idle)
+  next-starts i e d b = rw (e, step-starts G (a .next) (a .free) t idle-shown delay-shown now i d b, next-start-in)
 
   -- a task's next job is refused
-  pub next-refused : (i number : ℕ) → all-readable (setting ts) (lent bytes ts) offsets o ≡ true →
-      shown-choice (setting ts) (lent bytes ts) x t offsets o ≡ start-task i → setting ts .breaks-in-replay x t i t ≡ suc number →
-      next-start (setting ts) (lent bytes ts) x f offsets o ≡ stuck (suc number)
-  next-refused i number a d e =
-      let d′ : shown-choice (setting ts) (lent bytes ts) x (instant (setting ts) x f) offsets o ≡ start-task i = rw now d in
-      let e′ : setting ts .breaks-in-replay x (instant (setting ts) x f) i (instant (setting ts) x f) ≡ suc number = rw now e in
-      rw (a, d′, e′, next-start-in)
+  pub next-refused : (i number : ℕ) → all-readable G S (a .offsets) (a .idle) ≡ true → shown-choice G S a t ≡ start-task i →
+      G .breaks-in-replay (a .next) t i t ≡ suc number → next-start G S a ≡ stuck (suc number)
+  next-refused i number e d b = rw (e, step-refuses G (a .next) (a .free) t idle-shown delay-shown now i number d b, next-start-in)
 
   -- how a turn comes out
-  pub by-one-turn : {A : Type 0} → (all-readable (setting ts) (lent bytes ts) offsets o ≡ false → A) →
-      ((l : ℕ) → all-readable (setting ts) (lent bytes ts) offsets o ≡ true → shown-choice (setting ts) (lent bytes ts) x t offsets o ≡ idle-for l → A) →
-      ((i : ℕ) → all-readable (setting ts) (lent bytes ts) offsets o ≡ true → shown-choice (setting ts) (lent bytes ts) x t offsets o ≡ start-task i →
-      setting ts .breaks-in-replay x t i t ≡ 0 → A) →
-      ((i number : ℕ) → all-readable (setting ts) (lent bytes ts) offsets o ≡ true → shown-choice (setting ts) (lent bytes ts) x t offsets o ≡ start-task i →
-      setting ts .breaks-in-replay x t i t ≡ suc number → A) → A
+  pub by-one-turn : {A : Type 0} → (all-readable G S (a .offsets) (a .idle) ≡ false → A) →
+      ((l : ℕ) → all-readable G S (a .offsets) (a .idle) ≡ true → shown-choice G S a t ≡ idle-for l → A) →
+      ((i : ℕ) → all-readable G S (a .offsets) (a .idle) ≡ true → shown-choice G S a t ≡ start-task i → G .breaks-in-replay (a .next) t i t ≡ 0 → A) →
+      ((i number : ℕ) → all-readable G S (a .offsets) (a .idle) ≡ true → shown-choice G S a t ≡ start-task i →
+      G .breaks-in-replay (a .next) t i t ≡ suc number → A) → A
   by-one-turn unread idles starts refuses =
-      by-bool (all-readable (setting ts) (lent bytes ts) offsets o)
-      (λ a. by-choice (shown-choice (setting ts) (lent bytes ts) x t offsets o) (λ l d. idles l a d)
-      (λ i d. by-nat (setting ts .breaks-in-replay x t i t) (λ e. starts i a d e) (λ number e. refuses i number a d e))
-      (λ r d. absurd (priority-runs ts (hyperperiod ts) x t r
-      (decide-waits (setting ts) x t (idle-now (lent bytes ts .idle-shown o) t) (shown-delays (setting ts) (lent bytes ts) x offsets) r d))))
+      by-bool (all-readable G S (a .offsets) (a .idle))
+      (λ e. by-choice (shown-choice G S a t) (λ l d. idles l e d)
+      (λ i d. by-nat (G .breaks-in-replay (a .next) t i t) (λ b. starts i e d b) (λ number b. refuses i number e d b))
+      (λ r d. absurd (priority-runs ts (hyperperiod ts) (a .next) t r (decide-waits G (a .next) t (idle-shown t) delay-shown r d))))
       unread

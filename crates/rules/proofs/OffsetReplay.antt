@@ -22,7 +22,7 @@ use Rattle.rules.specs.Decision.{idle-for, start-task, delay-of, later-i
 use Rattle.rules.specs.Judging.{idle-in-range, inversion-in-range}
 use Rattle.rules.specs.Marks.{Mark, TS, TK, SL, ID, PV, EN, size}
 use Rattle.rules.specs.Image.{Record, to-idle, to-inversion}
-use Rattle.rules.specs.Offsets.{Shown, unreadable, no-record, shows, last-offset, record-at, shown-if, idle-by, idle-in, inversion-by, inversion-in, lent, is-of, own-delay, past-own, past-idle, next-is, stuck, next-start, moved, tables-offset, lower-before, first-offsets}
+use Rattle.rules.specs.Offsets.{Shown, unreadable, no-record, shows, last-offset, record-at, shown-if, idle-by, idle-in, inversion-by, inversion-in, lent, is-of, own-delay, past-own, past-idle, standing, next-is, stuck, next-start, moved, tables-offset, lower-before, first-offsets}
 use Rattle.rules.specs.Dispatcher.{zeros, counts-possible}
 use Rattle.rules.proofs.Cases.{by-bool, by-option, by-eq, by-pair, by-nat, differ, clash}
 use Rattle.rules.proofs.Theory.{Rising, Pairs}
@@ -184,11 +184,11 @@ module _ (bytes : List ℕ) (ts : List Task) (good : set-fault ts ≡ none) (p :
   -- a decision to start a task's next job at an instant: it starts, or it would end late
   now-starts : {A : Type 0} (f t o : ℕ) (idles : List Idle) (i : ℕ) → instant (setting ts) x f ≡ t → InRange (hyperperiod ts) idles →
       ShowsIdles (lent bytes ts) o idles → decided-by (setting ts) x t idles p ≡ start-task i →
-      (next-start (setting ts) (lent bytes ts) x f offsets o ≡ next-is i t o → StartKeepsRules ts (hyperperiod ts) x t i t →
+      (next-start (setting ts) (lent bytes ts) (standing x f offsets o) ≡ next-is i t o → StartKeepsRules ts (hyperperiod ts) x t i t →
       replay-from (setting ts) (suc (hyperperiod ts)) x f idles p
       ≡ start-before (record { task = i; start = t })
       (replay-from (setting ts) (suc (hyperperiod ts)) (start-job x i) (t + task ts i .time) idles p) → A) →
-      ((number : ℕ) → next-start (setting ts) (lent bytes ts) x f offsets o ≡ stuck number →
+      ((number : ℕ) → next-start (setting ts) (lent bytes ts) (standing x f offsets o) ≡ stuck number →
       replay-from (setting ts) (suc (hyperperiod ts)) x f idles p ≡ refuses (refusal 18 0) → A) → A
   now-starts f t o idles i now ranges shown d starts late-now =
       let h : ℕ = hyperperiod ts in
@@ -198,19 +198,19 @@ module _ (bytes : List ℕ) (ts : List Task) (good : set-fault ts ≡ none) (p :
       (λ e.
       let keeps = keeps-rules ts h x t i t (laws ts good .replay-refuses x t i t e) in
       let ends : t + task ts i .time ≤ h = ends-in-cycle ts h (good-rules (good-set ts good)) x t i t keeps in
-      starts (next-starts bytes ts x f t offsets o now i a c e) keeps
+      starts (next-starts bytes ts (standing x f offsets o) t now i a c e) keeps
       (turn-starts (setting ts) h x f t idles p now left i d e
       ∙ ap (start-before (record { task = i; start = t }))
       (turns-enough (setting ts) (laws ts good) h (suc h) (start-job x i) (t + task ts i .time) idles p ranges ends
       (omega (arith, good-rules (good-set ts good) i .takes-time)) (omega arith))))
-      (λ number e. late-now (suc number) (next-refused bytes ts x f t offsets o now i number a c e)
+      (λ number e. late-now (suc number) (next-refused bytes ts (standing x f offsets o) t now i number a c e)
       (turn-refuses (setting ts) h x f t idles p now left i number d e
       ∙ ap (λ (m : ℕ). refuses (refusal m 0)) (late-number (entry-breaks ts h x t i t) number e)))
 
   -- what comes next from an instant on: a start, or a job that would end late
   module _ {A : Type 0} (f o : ℕ) (idles : List Idle) (rising : Rising (hyperperiod ts) 0 idles) (shown : ShowsIdles (lent bytes ts) o idles)
-      (starts : (i t w : ℕ) → next-start (setting ts) (lent bytes ts) x f offsets o ≡ next-is i t w → NextReplayed bytes ts p x f o idles i t w → A)
-      (late-now : (number : ℕ) → next-start (setting ts) (lent bytes ts) x f offsets o ≡ stuck number →
+      (starts : (i t w : ℕ) → next-start (setting ts) (lent bytes ts) (standing x f offsets o) ≡ next-is i t w → NextReplayed bytes ts p x f o idles i t w → A)
+      (late-now : (number : ℕ) → next-start (setting ts) (lent bytes ts) (standing x f offsets o) ≡ stuck number →
       replay-from (setting ts) (suc (hyperperiod ts)) x f idles p ≡ refuses (refusal 18 0) → A) where
     -- the decision is to start a job
     at-once : (i : ℕ) → decided-by (setting ts) x (instant (setting ts) x f) idles p ≡ start-task i → A
@@ -243,7 +243,7 @@ module _ (bytes : List ℕ) (ts : List Task) (good : set-fault ts ≡ none) (p :
         let shown-first : ShowsIdles (lent bytes ts) o (r ∷ rest) = rw q at shown in
         let readable = readable-at (setting ts) (lent bytes ts) p pairs x offsets placed o idles shown in
         let choice = decided-as-table (setting ts) (lent bytes ts) p pairs x offsets placed t o idles shown ∙ d in
-        let next-same = next-idles bytes ts x f t offsets o refl (r .length) readable choice in
+        let next-same = next-idles bytes ts (standing x f offsets o) t refl (r .length) readable choice in
         let on : replay-from (setting ts) (suc h) x f idles p ≡ replay-from (setting ts) (suc h) x u rest p =
         turn-idles (setting ts) h x f t idles p refl left (r .length) d
         ∙ ap (λ (k : List Idle). replay-from (setting ts) h x u (later-idles k) p) q
@@ -300,7 +300,7 @@ module _ (ts : List Task) (p : List Inversion) (x : List ℕ) (idles : List Idle
       (λ r b d. clash (cc))
 
 -- where replay stands at offsets after starts: what has started, the instant from which the processor is free, the tasks' offsets, the ID offset
-pub record Replays (bytes : List ℕ) (ts : List Task) (X : Tables) (σ : List Entry) (x : List ℕ) (f : ℕ) (offsets : List ℕ) (o : ℕ) : Type 0 where
+pub record ReplaysAt (bytes : List ℕ) (ts : List Task) (X : Tables) (σ : List Entry) (x : List ℕ) (f : ℕ) (offsets : List ℕ) (o : ℕ) : Type 0 where
   pub idles-used : List Idle
   pub idles-left : List Idle
   pub all-idles : X .idles ≡ idles-used ++ idles-left
@@ -322,7 +322,7 @@ pub record Replays (bytes : List ℕ) (ts : List Task) (X : Tables) (σ : List E
 
 -- a start of a task's next job, and where replay stands after it
 pub record StartsNext (bytes : List ℕ) (ts : List Task) (X : Tables) (σ : List Entry) (x offsets : List ℕ) (i t w : ℕ) : Type 0 where
-  pub goes-on : Replays bytes ts X (σ ++ (record { task = i; start = t } ∷ [])) (start-job x i) (t + task ts i .time)
+  pub goes-on : ReplaysAt bytes ts X (σ ++ (record { task = i; start = t } ∷ [])) (start-job x i) (t + task ts i .time)
       (moved (setting ts) (lent bytes ts) x offsets i) w
   pub a-task : i < length ts
   pub a-job : slot x i < jobs (hyperperiod ts) (task ts i)
@@ -332,7 +332,7 @@ pub record StartsNext (bytes : List ℕ) (ts : List Task) (X : Tables) (σ : Lis
 module _ {bytes : List ℕ} {ts : List Task} {X : Tables} {n : ℕ} (st : Stand bytes ts X n) (good : set-fault ts ≡ none) where
   -- at the start of a cycle
   pub replay-begins : (x offsets : List ℕ) → Same (length ts) x [] → Same (length ts) offsets (first-offsets ts X .inversions) →
-      Replays bytes ts X [] x 0 offsets (first-offsets ts X .idle)
+      ReplaysAt bytes ts X [] x 0 offsets (first-offsets ts X .idle)
   replay-begins x offsets sx so = record {
     idles-used = [];
     idles-left = X .idles;
@@ -353,7 +353,7 @@ module _ {bytes : List ℕ} {ts : List Task} {X : Tables} {n : ℕ} (st : Stand 
     inverted-so-far = λ i k d e. clash (cc);
   }
 
-  module _ {σ : List Entry} {x : List ℕ} {f : ℕ} {offsets : List ℕ} {o : ℕ} (R : Replays bytes ts X σ x f offsets o) where
+  module _ {σ : List Entry} {x : List ℕ} {f : ℕ} {offsets : List ℕ} {o : ℕ} (R : ReplaysAt bytes ts X σ x f offsets o) where
     -- no next job number is above the jobs of a cycle
     pub possible : (i : ℕ) → i < length ts → slot x i ≤ jobs (hyperperiod ts) (task ts i)
     possible = counts-say (hyperperiod ts) ts x (R .counts)
@@ -429,14 +429,14 @@ module _ {bytes : List ℕ} {ts : List Task} {X : Tables} {n : ℕ} (st : Stand 
 
     module _ (left : all-started (hyperperiod ts) ts x ≡ false) where
       -- the search for the next start is stuck: replay comes to a late job
-      pub replay-stuck : (number : ℕ) → next-start (setting ts) (lent bytes ts) x f offsets o ≡ stuck number →
+      pub replay-stuck : (number : ℕ) → next-start (setting ts) (lent bytes ts) (standing x f offsets o) ≡ stuck number →
           replay (setting ts) [] X ≡ refuses (refusal 18 (length σ))
       replay-stuck number e =
           comes-next bytes ts good (X .inversions) (st .keep-rules .pairs) x offsets (R .placed) left f o (R .idles-left) (R .rising) (R .idles-shown)
           (λ i t w q z. clash (cc)) (λ m q z. R .replayed ∙ ap (starts-before σ) z ∙ starts-before-refusal σ 18)
 
       -- how replay goes on where the search comes to a start
-      pub next-replayed : (i t w : ℕ) → next-start (setting ts) (lent bytes ts) x f offsets o ≡ next-is i t w →
+      pub next-replayed : (i t w : ℕ) → next-start (setting ts) (lent bytes ts) (standing x f offsets o) ≡ next-is i t w →
           NextReplayed bytes ts (X .inversions) x f o (R .idles-left) i t w
       next-replayed i t w e =
           comes-next bytes ts good (X .inversions) (st .keep-rules .pairs) x offsets (R .placed) left f o (R .idles-left) (R .rising) (R .idles-shown)
@@ -449,7 +449,7 @@ module _ {bytes : List ℕ} {ts : List Task} {X : Tables} {n : ℕ} (st : Stand 
           (λ m q z. clash (cc))
 
       -- the search comes to a start: replay goes on from there
-      pub replay-starts : (i t w : ℕ) → next-start (setting ts) (lent bytes ts) x f offsets o ≡ next-is i t w →
+      pub replay-starts : (i t w : ℕ) → next-start (setting ts) (lent bytes ts) (standing x f offsets o) ≡ next-is i t w →
           StartsNext bytes ts X σ x offsets i t w
       replay-starts i t w e =
           let h : ℕ = hyperperiod ts in

@@ -2,7 +2,7 @@
 use mathlib.Core.Path.{_≡_, refl, sym, _∙_, ap}
 use mathlib.Core.Bool.{true, false}
 use mathlib.Core.List.{List, [], _∷_}
-use mathlib.Core.Option.{none, some}
+use mathlib.Core.Option.{Option, none, some}
 use Prim.Native.Nat.{ℕ, zero, suc, _+_, _≤_}
 use native.Mathlib.Omega.{arith}
 use lib.Dec.{ltb, eqb}
@@ -13,9 +13,10 @@ use Rattle.rules.specs.declared.Inversion.{Inversion}
 use Rattle.rules.specs.Refusals.{gives, refuses, refusal}
 use Rattle.rules.specs.Setting.{Setting, Tables, run, wait, lowest, instant}
 use Rattle.rules.specs.Irregularities.{tables-of}
-use Rattle.rules.specs.Decision.{idle-for, start-task, wait-till, idle-at, first-idle, later-idles, as-baseline, start-before, recorded, delays, replay-from, replay}
-use Rattle.rules.proofs.Cases.{by-bool, by-act, by-option, by-choice, by-nat, by-judged, clash, gives-in}
+use Rattle.rules.specs.Decision.{idle-for, start-task, wait-till, idles-till, starts, waits-till, idle-at, first-idle, later-idles, as-baseline, start-before, recorded, step, delays, replay-from, replay}
+use Rattle.rules.proofs.Cases.{by-bool, by-act, by-option, by-step, by-judged, clash, gives-in}
 use Rattle.rules.proofs.Theory.{Laws, ValidFrom, finished, entry}
+use Rattle.rules.proofs.Steps.{decide-waits, by-turn-of, idle-used, starts-forward, waits-forward}
 use Rattle.rules.proofs.RoundTrip.{decided-by, inversion-next, baseline-last, round-trip}
 
 -- an idle record that starts at an instant
@@ -26,7 +27,7 @@ idle-at-some r t l h =
     (λ b. let g : none ≡ some l = rw (b, idle-at) at h in clash (cc))
 
 -- the first unused idle record
-first-idle-some : {A : Type 0} (idles : List Idle) (t l : ℕ) → first-idle idles t ≡ some l →
+pub first-idle-some : {A : Type 0} (idles : List Idle) (t l : ℕ) → first-idle idles t ≡ some l →
     ((r : Idle) (rest : List Idle) → idles ≡ r ∷ rest → r .start ≡ t → r .length ≡ l → A) → A
 first-idle-some [] t l h go = clash (cc)
 first-idle-some (r ∷ rest) t l h go = let a = idle-at-some r t l h in go r rest refl (a .0) (a .1)
@@ -49,9 +50,7 @@ module _ (G : Setting) where
   -- replay waits only as the baseline does
   pub waits-by-baseline : (x : G .Started) (t : ℕ) (idles : List Idle) (p : List Inversion) (r : ℕ) → decided-by G x t idles p ≡ wait-till r →
       G .baseline x t ≡ wait r
-  waits-by-baseline x t idles p r h =
-      by-decision x t idles p (λ s k q u d. clash (cc)) (λ i o d. clash (cc)) (λ i b d. clash (cc))
-      (λ w b d. let g : wait-till w ≡ wait-till r = sym d ∙ h in b ∙ cc)
+  waits-by-baseline x t idles p r h = decide-waits G x t (first-idle idles t) (delays G p x) r h
 
   module _ {A : Type 0} (turns : ℕ) (x : G .Started) (f : ℕ) (idles : List Idle) (p : List Inversion) where
     -- one turn of replay: all has started, or it idles, starts a job, refuses to start it, waits, or would wait past the end of the cycle
@@ -72,30 +71,42 @@ module _ (G : Setting) where
         replay-from G (suc turns) x f idles p ≡ refuses (refusal 18 0) → A) →
         A
     by-turn ends idling starting refusing waiting past =
-        let t : ℕ = instant G x f in
         by-bool (G .all-started x) (λ o. ends o (rw (o, replay-from)))
-        (λ o. by-choice (decided-by G x t idles p) (λ l d. idling l o d (rw (o, d, replay-from)))
-        (λ i d. by-nat (G .breaks-in-replay x t i t) (λ e. starting i o d e (rw (o, d, e, replay-from)))
-        (λ number e. refusing i number o d e (rw (o, d, e, replay-from))))
-        (λ r d. by-bool (ltb r (G .cycle-end)) (λ c. waiting r o d c (rw (o, d, c, replay-from))) (λ c. past r o d c (rw (o, d, c, replay-from)))))
+        (λ o. by-turn-of G x f (first-idle idles) (delays G p x) (λ l d s. idling l o d (rw (o, s, replay-from)))
+        (λ i d e s. starting i o d e (rw (o, s, replay-from))) (λ i number d e s. refusing i number o d e (rw (o, s, replay-from)))
+        (λ r d c s. waiting r o d c (rw (o, s, replay-from))) (λ r d c s. past r o d c (rw (o, s, replay-from))))
 
     -- how replay comes to give a timetable: all has started, or it idles, starts a job or waits, and goes on
-    pub by-replay : (τ : List Entry) → replay-from G (suc turns) x f idles p ≡ gives τ →
-        (G .all-started x ≡ true → τ ≡ [] → A) →
-        ((l : ℕ) → G .all-started x ≡ false → decided-by G x (instant G x f) idles p ≡ idle-for l →
-        replay-from G turns x (instant G x f + l) (later-idles idles) p ≡ gives τ → A) →
-        ((i : ℕ) (τ′ : List Entry) → G .all-started x ≡ false → decided-by G x (instant G x f) idles p ≡ start-task i →
-        τ ≡ record { task = i; start = instant G x f } ∷ τ′ → G .breaks-in-replay x (instant G x f) i (instant G x f) ≡ 0 →
-        replay-from G turns (G .start-job x i) (G .free-after i (instant G x f)) idles p ≡ gives τ′ → A) →
-        ((r : ℕ) → G .all-started x ≡ false → decided-by G x (instant G x f) idles p ≡ wait-till r → ltb r (G .cycle-end) ≡ true →
-        replay-from G turns x r idles p ≡ gives τ → A) →
+    pub by-replay : (τ : List Entry) → replay-from G (suc turns) x f idles p ≡ gives τ → (G .all-started x ≡ true → τ ≡ [] → A) →
+        ((r : ℕ) → G .all-started x ≡ false → step G x f (first-idle idles) (delays G p x) ≡ idles-till r →
+        replay-from G turns x r (later-idles idles) p ≡ gives τ → A) →
+        ((i t : ℕ) (τ′ : List Entry) → G .all-started x ≡ false → step G x f (first-idle idles) (delays G p x) ≡ starts i t →
+        τ ≡ record { task = i; start = t } ∷ τ′ → replay-from G turns (G .start-job x i) (G .free-after i t) idles p ≡ gives τ′ → A) →
+        ((r : ℕ) → G .all-started x ≡ false → step G x f (first-idle idles) (delays G p x) ≡ waits-till r → replay-from G turns x r idles p ≡ gives τ → A) →
         A
     by-replay τ h ends idling starting waiting =
-        by-turn (λ o q. ends o (gives-in τ [] (sym h ∙ q))) (λ l o d q. idling l o d (sym q ∙ h))
-        (λ i o d e q. by-judged (replay-from G turns (G .start-job x i) (G .free-after i (instant G x f)) idles p)
-        (λ τ′ z. starting i τ′ o d (gives-in τ _ (sym h ∙ q ∙ rw z)) e z)
-        (λ r z. let g : gives τ ≡ refuses (refusal (r .number) (suc (r .place))) = sym h ∙ q ∙ rw z in clash (cc)))
-        (λ i number o d e q. clash (cc)) (λ r o d c q. waiting r o d c (sym q ∙ h)) (λ r o d c q. clash (cc))
+        by-bool (G .all-started x) (λ o. ends o (gives-in τ [] (sym h ∙ rw (o, replay-from))))
+        (λ o. by-step (step G x f (first-idle idles) (delays G p x)) (λ r s. idling r o s (rw (o, s, replay-from) at h))
+        (λ i t s. by-judged (replay-from G turns (G .start-job x i) (G .free-after i t) idles p)
+        (λ τ′ z. starting i t τ′ o s (gives-in τ _ (sym h ∙ rw (o, s, replay-from) (rw z))) z)
+        (λ r z. let g : gives τ ≡ refuses (refusal (r .number) (suc (r .place))) = sym h ∙ rw (o, s, replay-from) (rw z) in clash (cc)))
+        (λ r s. waiting r o s (rw (o, s, replay-from) at h))
+        (λ number s. let g : gives τ ≡ refuses (refusal number 0) = sym h ∙ rw (o, s, replay-from) in clash (cc)))
+
+  -- a replay that gives a start had a job left
+  pub replay-left : (N : ℕ) (x : G .Started) (f : ℕ) (idles : List Idle) (p : List Inversion) (e : Entry) (τ : List Entry) →
+      replay-from G N x f idles p ≡ gives (e ∷ τ) → G .all-started x ≡ false
+  replay-left zero x f idles p e τ h = clash (cc)
+  replay-left (suc N) x f idles p e τ h =
+      by-replay N x f idles p (e ∷ τ) h (λ o q. clash (cc)) (λ r o s g. o) (λ i t σ o s q g. o) (λ r o s g. o)
+
+  -- one that gives no more start has started all jobs
+  pub replay-end : (N : ℕ) (x : G .Started) (f : ℕ) (idles : List Idle) (p : List Inversion) → replay-from G N x f idles p ≡ gives [] →
+      G .all-started x ≡ true
+  replay-end zero x f idles p h = clash (cc)
+  replay-end (suc N) x f idles p h =
+      by-replay N x f idles p [] h (λ o q. o) (λ r o s g. replay-end N x r (later-idles idles) p g) (λ i t σ o s q g. clash (cc))
+      (λ r o s g. replay-end N x r idles p g)
 
 module _ (G : Setting) (L : Laws G) where
   -- a timetable valid from an instant on is valid from any before it
@@ -109,12 +120,13 @@ module _ (G : Setting) (L : Laws G) where
       ValidFrom G x f τ
   yields zero x f idles p τ h = clash (cc)
   yields (suc N) x f idles p τ h =
-      let t : ℕ = instant G x f in
+      let idle : ℕ → Option ℕ = first-idle idles in
+      let delay : ℕ → Option ℕ = delays G p x in
       by-replay G N x f idles p τ h (λ o q. rw q (finished o))
-      (λ l o d g. earlier (yields N x (t + l) (later-idles idles) p τ g) f (omega arith))
-      (λ i τ′ o d q e g. rw q
-      (entry (L .any-free x t f i t (L .replay-refuses x t i t e) (omega arith)) (yields N (G .start-job x i) (G .free-after i t) idles p τ′ g)))
-      (λ r o d c g. earlier (yields N x r idles p τ g) f (omega (arith, L .waits-later x t r (waits-by-baseline G x t idles p r d))))
+      (λ r o s g. earlier (yields N x r (later-idles idles) p τ g) f (omega (arith, idle-used G x f idle delay r s .2)))
+      (λ i t τ′ o s q g. let w = starts-forward G x f idle delay i t s in
+      rw q (entry (L .any-free x t f i t (L .replay-refuses x t i t (w .1)) (w .0)) (yields N (G .start-job x i) (G .free-after i t) idles p τ′ g)))
+      (λ r o s g. earlier (yields N x r idles p τ g) f (omega (arith, waits-forward G x f idle delay (L .waits-later x) r s .0)))
 
   -- valid timetables with the same tables are the same
   pub one-timetable : (x : G .Started) (σ τ : List Entry) → ValidFrom G x 0 σ → ValidFrom G x 0 τ → tables-of G x 0 σ ≡ tables-of G x 0 τ → σ ≡ τ

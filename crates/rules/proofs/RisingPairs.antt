@@ -2,17 +2,20 @@
 -- are the same. Assumes nothing.
 use mathlib.Core.Path.{_≡_, refl, sym, _∙_}
 use mathlib.Core.Logic.{_↔_, _⊎_, inl, inr}
-use mathlib.Core.Bool.{true}
+use mathlib.Core.Bool.{Bool, true}
 use mathlib.Core.List.{List, [], _∷_, List·Memᴰ, List·Memᴰ·head, List·Memᴰ·tail, List·Memᴰ·not-nil}
+use mathlib.Core.Option.{some}
 use Prim.Native.Nat.{ℕ, zero, suc, _<_}
 use native.Mathlib.Omega.{arith}
 use lib.ListN.{length}
 use Rattle.rules.specs.declared.Inversion.{Inversion}
 use Rattle.rules.specs.Irregularities.{at-most, insert}
+use Rattle.rules.specs.Decision.{delay-of}
 use Rattle.rules.specs.Order.{PairRises}
-use Rattle.rules.proofs.Cases.{by-bool}
+use Rattle.rules.proofs.Cases.{by-bool, by-pair, clash}
 use Rattle.rules.proofs.Theory.{Pairs}
-use Rattle.rules.proofs.Pairs.{at-most-lt, at-most-le, at-most-true, at-most-zero, at-most-next, above-ne}
+use Rattle.rules.proofs.Pairs.{at-most-lt, at-most-le, at-most-true, at-most-zero, at-most-next, above-ne, delay-here, delay-there, inversion-path}
+use Rattle.rules.proofs.Derived.{Every}
 
 -- a record of a table is its first or a later one
 by-cons : {A : Type 0} {r s : Inversion} {p : List Inversion} → List·Memᴰ r (s ∷ p) → (r ≡ s → A) → (List·Memᴰ r p → A) → A
@@ -109,3 +112,23 @@ same-records a b c d (r ∷ p) (s ∷ q) y z same =
         λ n. by-cons (same m .1 (List·Memᴰ·tail n)) (λ e. absurd (not-first s q (z .1) n (e ∙ firsts))) (λ l. l),
       )),
     )
+
+-- what every record of a table passes, one that it has passes
+pub member-passes : {r : Inversion} (passes : Inversion → Bool) (p : List Inversion) → Every passes p → List·Memᴰ r p → passes r ≡ true
+member-passes passes (s ∷ p) z (List·Memᴰ·head q) = rw q (z .0)
+member-passes passes (s ∷ p) z (List·Memᴰ·tail m) = member-passes passes p (z .1) m
+
+-- the delay that a table has for a job is a record of it
+pub delay-has : (p : List Inversion) (i k d : ℕ) → delay-of p i k ≡ some d → List·Memᴰ (record { task = i; job = k; delay = d }) p
+delay-has [] i k d e = clash (cc)
+delay-has (s ∷ p) i k d e =
+    by-pair (s .task) i (s .job) k
+    (λ u v. let g : some (s .delay) ≡ some d = sym (delay-here s p i k u v) ∙ e in List·Memᴰ·head (inversion-path _ s (sym u) (sym v) (cc)))
+    (λ n. List·Memᴰ·tail (delay-has p i k d (sym (delay-there s p i k n) ∙ e)))
+
+-- and of a rising table every record is the delay of its job
+pub has-delay : {r : Inversion} (a b : ℕ) (p : List Inversion) → Pairs a b p → List·Memᴰ r p → delay-of p (r .task) (r .job) ≡ some (r .delay)
+has-delay {r} a b (s ∷ p) z (List·Memᴰ·head q) = delay-here s p (r .task) (r .job) (rw q) (rw q) ∙ rw q
+has-delay {r} a b (s ∷ p) z (List·Memᴰ·tail m) =
+    delay-there s p (r .task) (r .job) (above-ne (s .task) (s .job) (r .task) (r .job) (not-below (s .task) (suc (s .job)) p (z .1) m))
+    ∙ has-delay (s .task) (suc (s .job)) p (z .1) m

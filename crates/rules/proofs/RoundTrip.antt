@@ -6,7 +6,7 @@ use mathlib.Core.Option.{none, some}
 use Prim.Native.Nat.{ℕ, zero, suc, _+_, _-_, _≤_, _<_}
 use native.Mathlib.Omega.{arith}
 use lib.Dec.{ltb, leb}
-use borrow.Author.Tests.{ltb-true, ltb-false, leb-true, eqb-true, lt-ltb, eq-eqb, ne-eqb}
+use borrow.Author.Tests.{ltb-true, ltb-false, leb-true, eqb-true, eq-eqb, ne-eqb}
 use Rattle.rules.specs.declared.Entry.{Entry}
 use Rattle.rules.specs.declared.Idle.{Idle}
 use Rattle.rules.specs.declared.Inversion.{Inversion}
@@ -18,6 +18,7 @@ use Rattle.rules.proofs.Cases.{by-bool, by-act, by-option, by-eq, by-pa
 use Rattle.rules.proofs.Theory.{Laws, ValidFrom, finished, entry}
 use Rattle.rules.proofs.Lowest.{lowest-from-empty, lowest-from-one}
 use Rattle.rules.proofs.Pairs.{delay-insert-same, delay-insert-other}
+use Rattle.rules.proofs.Steps.{step-idles, step-waits, step-starts, step-refuses}
 
 -- what replay decides at an instant, by the unused idle records and the inversion records
 abbrev pub decided-by : (G : Setting) → G .Started → ℕ → List Idle → List Inversion → Choice
@@ -29,33 +30,23 @@ module _ (G : Setting) where
     -- a turn that idles
     pub turn-idles : (l : ℕ) → decided-by G x t idles p ≡ idle-for l →
         replay-from G (suc turns) x f idles p ≡ replay-from G turns x (t + l) (later-idles idles) p
-    turn-idles l d =
-        let d′ : decided-by G x (instant G x f) idles p ≡ idle-for l = rw now d in
-        rw (left, d′, replay-from) (rw now)
+    turn-idles l d = rw (left, step-idles G x f t (first-idle idles) (delays G p x) now l d, replay-from)
 
     -- a turn that waits as the baseline does
     pub turn-waits : (r : ℕ) → decided-by G x t idles p ≡ wait-till r → r < G .cycle-end →
         replay-from G (suc turns) x f idles p ≡ replay-from G turns x r idles p
-    turn-waits r d h =
-        let d′ : decided-by G x (instant G x f) idles p ≡ wait-till r = rw now d in
-        rw (left, d′, lt-ltb r (G .cycle-end) h, replay-from)
+    turn-waits r d h = rw (left, step-waits G x f t (first-idle idles) (delays G p x) now r d h, replay-from)
 
     -- a turn that starts a job
     pub turn-starts : (i : ℕ) → decided-by G x t idles p ≡ start-task i → G .breaks-in-replay x t i t ≡ 0 →
         replay-from G (suc turns) x f idles p
         ≡ start-before (record { task = i; start = t }) (replay-from G turns (G .start-job x i) (G .free-after i t) idles p)
-    turn-starts i d e =
-        let d′ : decided-by G x (instant G x f) idles p ≡ start-task i = rw now d in
-        let e′ : G .breaks-in-replay x (instant G x f) i (instant G x f) ≡ 0 = rw now e in
-        rw (left, d′, e′, replay-from) (rw now)
+    turn-starts i d e = rw (left, step-starts G x f t (first-idle idles) (delays G p x) now i d e, replay-from)
 
     -- a turn that refuses to start it
     pub turn-refuses : (i number : ℕ) → decided-by G x t idles p ≡ start-task i → G .breaks-in-replay x t i t ≡ suc number →
         replay-from G (suc turns) x f idles p ≡ refuses (refusal (suc number) 0)
-    turn-refuses i number d e =
-        let d′ : decided-by G x (instant G x f) idles p ≡ start-task i = rw now d in
-        let e′ : G .breaks-in-replay x (instant G x f) i (instant G x f) ≡ suc number = rw now e in
-        rw (left, d′, e′, replay-from)
+    turn-refuses i number d e = rw (left, step-refuses G x f t (first-idle idles) (delays G p x) now i number d e, replay-from)
 
   -- rule (1): the first unused idle record starts now
   pub idle-first : (x : G .Started) (t : ℕ) (r : Idle) (idles : List Idle) (p : List Inversion) → r .start ≡ t →

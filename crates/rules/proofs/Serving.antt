@@ -6,7 +6,7 @@ use mathlib.Core.Option.{none}
 use Prim.Native.Nat.{ℕ, suc, _+_, _*_, _-_, _≤_, _<_}
 use native.Mathlib.Omega.{arith}
 use lib.Dec.{ltb}
-use lib.ListN.{length, take, drop, replicate, drop-of-length-le}
+use lib.ListN.{length, take, drop, replicate, drop-of-length-le, length-append, length-replicate}
 use lib.Seq.{take-suc, drop-cons, take-at}
 use borrow.Author.Tests.{lt-ltb, le-ltb, le-leb, eq-eqb, ne-eqb}
 use Rattle.rules.specs.declared.Task.{Task}
@@ -22,14 +22,14 @@ use Rattle.rules.specs.Timetable.{entry-at, count, job-at, ValidTimetabl
 use Rattle.rules.specs.Setting.{Tables}
 use Rattle.rules.specs.Priority.{slot, start-job, all-started, setting}
 use Rattle.rules.specs.Decision.{replay-from, replay}
-use Rattle.rules.specs.Offsets.{next-is, next-start, moved, lent, first-offsets}
-use Rattle.rules.specs.Dispatcher.{zeros, zero-task, set-of, counts-possible, is-stopped, possible, began, latest-end, refused, front, started, start-next, last-cycle, next-turn, go-on, fresh}
+use Rattle.rules.specs.Offsets.{Standing, standing, next-is, next-start, moved, lent, first-offsets}
+use Rattle.rules.specs.Dispatcher.{Shaped, zeros, zero-task, set-of, counts-possible, is-stopped, possible, began, latest-end, refused, started, start-next, last-cycle, after-running, at-cycle-start, next-turn, go-on, fresh, at-begin}
 use Rattle.rules.specs.Calls.{start-of}
 use Rattle.rules.proofs.Cases.{by-eq, both-in}
 use Rattle.rules.proofs.Theory.{Laws, Pairs}
 use Rattle.rules.proofs.PriorityLaws.{slot-empty, keeps-rules, slot-start-same, slot-start-other}
-use Rattle.rules.proofs.Arrays.{slot-zeros}
-use Rattle.rules.proofs.NextStart.{replay-next, replay-end}
+use Rattle.rules.proofs.Arrays.{slot-zeros, start-length, put-length, front-length, first-length}
+use Rattle.rules.proofs.Replayed.{replay-left, replay-end}
 use Rattle.rules.proofs.Positions.{count-more, count-same}
 use Rattle.rules.proofs.Shown.{ShowsIdles, ShowsInversions, from, slot-front}
 use Rattle.rules.proofs.Starts.{Placed, first-start}
@@ -42,7 +42,7 @@ answered a s = record { answer = Start a; state = s }
 -- the turn that makes the first start
 abbrev pub first-turn : List ℕ → List Task → Tables → Turn
 first-turn bytes ts X =
-    start-next bytes (fresh (record { tasks = ts; tables = X })) 0 zeros 0 (first-offsets ts X .inversions) (first-offsets ts X .idle)
+    start-next bytes (fresh (record { tasks = ts; tables = X })) 0 (at-begin (fresh (record { tasks = ts; tables = X })))
 
 -- next job numbers that count the entries before entry r count, after it has started, those before the next
 counts-more : (n : ℕ) (τ : List Entry) (r : ℕ) → r < length τ → (x : List ℕ) → ((i : ℕ) → i < n → slot x i ≡ count i (take r τ)) →
@@ -57,20 +57,23 @@ counts-more n τ r lt x counts j l =
 module _ (bytes : List ℕ) (ts : List Task) (X : Tables) (τ : List Entry) where
   -- what a state keeps of the image for all cycles: the set, and the offsets as at a cycle's start
   pub record Kept (s : State) : Type 0 where
+    pub slots : length (s .set .tasks) ≡ limits .tasks
     pub same-set : set-of s ≡ ts
     pub tasks : s .set .n ≡ length ts
     pub first : s .first ≡ first-offsets ts X
 
-  -- entry r of a cycle is next: what has started, the instant from which the processor is free, the tasks' offsets, the ID offset
-  pub record Ready (r : ℕ) (x : List ℕ) (f : ℕ) (offsets : List ℕ) (o : ℕ) : Type 0 where
+  -- entry r of a cycle is next
+  pub record Ready (r : ℕ) (a : Standing (List ℕ)) : Type 0 where
     pub turns : ℕ
     pub enough : turns ≤ suc (hyperperiod ts)
     pub idles : List Idle
-    pub rest : replay-from (setting ts) turns x f idles (X .inversions) ≡ gives (drop r τ)
-    pub idles-shown : ShowsIdles (lent bytes ts) o idles
-    pub placed : Placed (setting ts) (lent bytes ts) (X .inversions) x offsets
-    pub possible-counts : counts-possible (hyperperiod ts) ts x ≡ true
-    pub counts : (i : ℕ) → i < length ts → slot x i ≡ count i (take r τ)
+    pub rest : replay-from (setting ts) turns (a .next) (a .free) idles (X .inversions) ≡ gives (drop r τ)
+    pub idles-shown : ShowsIdles (lent bytes ts) (a .idle) idles
+    pub placed : Placed (setting ts) (lent bytes ts) (X .inversions) (a .next) (a .offsets)
+    pub possible-counts : counts-possible (hyperperiod ts) ts (a .next) ≡ true
+    pub counts : (i : ℕ) → i < length ts → slot (a .next) i ≡ count i (take r τ)
+    pub next-slots : length (a .next) ≡ limits .tasks
+    pub offset-slots : length (a .offsets) ≡ limits .tasks
 
   -- the state after entry r of cycle c has started
   pub record At (c r : ℕ) (s : State) : Type 0 where
@@ -80,7 +83,7 @@ module _ (bytes : List ℕ) (ts : List Task) (X : Tables) (τ : List Entry) wher
     pub running-job : s .running .job ≡ job-at τ r
     pub running-start : s .running .start ≡ entry-at τ r .start
     pub last-started : slot (s .next) (s .running .task) ≡ suc (s .running .job)
-    pub ready : Ready (suc r) (s .next) (s .running .start + task ts (s .running .task) .time) (s .now .inversions) (s .now .idle)
+    pub ready : Ready (suc r) (after-running s)
 
   -- a call that answers entry r of cycle c
   pub record Serves (c r : ℕ) (turn : Turn) : Type 0 where
@@ -89,15 +92,15 @@ module _ (bytes : List ℕ) (ts : List Task) (X : Tables) (τ : List Entry) wher
     pub at : At c r state
 
   -- with an entry left not all jobs have started
-  not-all-started : {r f o : ℕ} {x offsets : List ℕ} → Ready r x f offsets o → r < length τ → all-started (hyperperiod ts) ts x ≡ false
-  not-all-started {r = r} {f = f} {x = x} re lt =
-      replay-next (setting ts) (re .turns) x f (re .idles) (X .inversions) (entry-at τ r) (drop (suc r) τ)
-      (re .rest ∙ ap gives (drop-cons τ r (record { task = 0; start = 0 }) lt)) (λ M k a n b g. n)
+  not-all-started : {r : ℕ} {a : Standing (List ℕ)} → Ready r a → r < length τ → all-started (hyperperiod ts) ts (a .next) ≡ false
+  not-all-started {r = r} {a = a} re lt =
+      replay-left (setting ts) (re .turns) (a .next) (a .free) (re .idles) (X .inversions) (entry-at τ r) (drop (suc r) τ)
+      (re .rest ∙ ap gives (drop-cons τ r (record { task = 0; start = 0 }) lt))
 
   -- and with none left they have
-  all-have-started : {r f o : ℕ} {x offsets : List ℕ} → Ready r x f offsets o → length τ ≤ r → all-started (hyperperiod ts) ts x ≡ true
-  all-have-started {r = r} {f = f} {x = x} re le =
-      replay-end (setting ts) (re .turns) x f (re .idles) (X .inversions) (re .rest ∙ ap gives (drop-of-length-le τ {i = r} le))
+  all-have-started : {r : ℕ} {a : Standing (List ℕ)} → Ready r a → length τ ≤ r → all-started (hyperperiod ts) ts (a .next) ≡ true
+  all-have-started {r = r} {a = a} re le =
+      replay-end (setting ts) (re .turns) (a .next) (a .free) (re .idles) (X .inversions) (re .rest ∙ ap gives (drop-of-length-le τ {i = r} le))
 
   -- what the dispatcher goes by: a set without a fault, the tables that replay to a valid timetable, and offsets that show them
   pub record Served : Type 0 where
@@ -112,53 +115,54 @@ module _ (bytes : List ℕ) (ts : List Task) (X : Tables) (τ : List Entry) wher
 
   module _ (g : Served) where
     -- the entry that is next starts
-    serves-next : (c r : ℕ) (x : List ℕ) (f : ℕ) (offsets : List ℕ) (o : ℕ) (s : State) → r < length τ → Kept s → Ready r x f offsets o →
-        Serves c r (start-next bytes s c x f offsets o)
-    serves-next c r x f offsets o s lt ke re =
+    serves-next : (c r : ℕ) (a : Standing (List ℕ)) (s : State) → r < length τ → Kept s → Ready r a → Serves c r (start-next bytes s c a)
+    serves-next c r a s lt ke re =
         let e : Entry = entry-at τ r in
         let i : ℕ = e .task in
-        first-start (setting ts) (lent bytes ts) (X .inversions) (g .laws) (g .pairs) (re .turns) x f (re .idles) e (drop (suc r) τ) offsets o (re .enough)
+        first-start (setting ts) (lent bytes ts) (X .inversions) (g .laws) (g .pairs) (re .turns) a (re .idles) e (drop (suc r) τ) (re .enough)
         (re .rest ∙ ap gives (drop-cons τ r (record { task = 0; start = 0 }) lt)) (re .placed) (re .idles-shown)
-        (λ K w k less all b n shown rest placed.
-        let keep = keeps-rules ts (hyperperiod ts) x f i (e .start) b in
-        let job : slot x i ≡ job-at τ r = re .counts i (keep .a-task) in
-        let n′ : next-start (setting (set-of s)) (lent bytes (set-of s)) x f offsets o ≡ next-is i (e .start) w = rw (ke .same-set) n in
+        (λ K w k less b n shown rest placed.
+        let keep = keeps-rules ts (hyperperiod ts) (a .next) (a .free) i (e .start) b in
+        let job : slot (a .next) i ≡ job-at τ r = re .counts i (keep .a-task) in
+        let n′ : next-start (setting (set-of s)) (lent bytes (set-of s)) a ≡ next-is i (e .start) w = rw (ke .same-set) n in
         let s′ : State =
         record {
           set = s .set;
-          next = start-job x i;
+          next = start-job (a .next) i;
           cycle = c;
-          running = record { task = i; job = slot x i; start = e .start };
-          now = record { idle = w; inversions = moved (setting ts) (lent bytes ts) x offsets i };
+          running = record { task = i; job = slot (a .next) i; start = e .start };
+          now = record { idle = w; inversions = moved (setting ts) (lent bytes ts) (a .next) (a .offsets) i };
           first = s .first;
         } in
         record {
           state = s′;
-          answers = ap (started bytes s c x offsets) n′ ∙ rw (ke .same-set, job);
+          answers = ap (started bytes s c a) n′ ∙ rw (ke .same-set, job);
           at = record {
-            kept = record { same-set = ke .same-set; tasks = ke .tasks; first = ke .first };
+            kept = record { slots = ke .slots; same-set = ke .same-set; tasks = ke .tasks; first = ke .first };
             cycle = refl;
             running-task = refl;
             running-job = job;
             running-start = refl;
-            last-started = slot-start-same x i;
+            last-started = slot-start-same (a .next) i;
             ready = record {
               turns = K;
               enough = omega (arith, re .enough);
               idles = k;
-              rest = rest;
+              rest = rw (ke .same-set) rest;
               idles-shown = shown;
               placed = placed;
-              possible-counts = counts-start (hyperperiod ts) ts x i (re .possible-counts) (keep .left);
-              counts = counts-more (length ts) τ r lt x (re .counts);
+              possible-counts = counts-start (hyperperiod ts) ts (a .next) i (re .possible-counts) (keep .left);
+              counts = counts-more (length ts) τ r lt (a .next) (re .counts);
+              next-slots = start-length (a .next) i (omega (arith, keep .a-task, g .good .few-tasks, re .next-slots)) ∙ re .next-slots;
+              offset-slots = put-length (a .offsets) i _ (omega (arith, keep .a-task, g .good .few-tasks, re .offset-slots)) ∙ re .offset-slots;
             };
           };
         })
 
     -- at a cycle's start its first entry is next
     ready-first : (x offsets : List ℕ) → Same (length ts) x [] → Same (length ts) offsets (first-offsets ts X .inversions) →
-        Ready 0 x 0 offsets (first-offsets ts X .idle)
-    ready-first x offsets sx so = record {
+        length x ≡ limits .tasks → length offsets ≡ limits .tasks → Ready 0 (standing x 0 offsets (first-offsets ts X .idle))
+    ready-first x offsets sx so lx lo = record {
       turns = suc (hyperperiod ts);
       enough = omega arith;
       idles = X .idles;
@@ -167,18 +171,27 @@ module _ (bytes : List ℕ) (ts : List Task) (X : Tables) (τ : List Entry) wher
       placed = λ i l. rw (so i l, sx i l, slot-empty i) (g .inversions-first i l);
       possible-counts = counts-zero (hyperperiod ts) ts x sx;
       counts = λ i l. sx i l ∙ slot-empty i;
+      next-slots = lx;
+      offset-slots = lo;
     }
 
     -- beginning answers the first entry
     pub serves-first : 0 < length τ → Serves 0 0 (first-turn bytes ts X)
     serves-first lt =
-        serves-next 0 0 zeros 0 (first-offsets ts X .inversions) (first-offsets ts X .idle) (fresh (record { tasks = ts; tables = X })) lt
+        serves-next 0 0 (at-begin (fresh (record { tasks = ts; tables = X }))) (fresh (record { tasks = ts; tables = X })) lt
         (record {
+          slots = omega (
+            arith,
+            length-append ts (replicate (limits .tasks - length ts) zero-task),
+            length-replicate (limits .tasks - length ts) zero-task,
+            g .good .few-tasks,
+          );
           same-set = take-at ts (replicate (limits .tasks - length ts) zero-task) (length ts) refl;
           tasks = refl;
           first = refl;
         })
-        (ready-first zeros (first-offsets ts X .inversions) (λ i l. slot-zeros (limits .tasks) i ∙ sym (slot-empty i)) (λ i l. refl))
+        (ready-first zeros (first-offsets ts X .inversions) (λ i l. slot-zeros (limits .tasks) i ∙ sym (slot-empty i)) (λ i l. refl) refl
+        (first-length ts X (g .good .few-tasks)))
 
     module _ (c r : ℕ) (s : State) (a : At c r s) (an-entry : r < length τ) where
       -- such a state is possible
@@ -186,7 +199,7 @@ module _ (bytes : List ℕ) (ts : List Task) (X : Tables) (τ : List Entry) wher
       possible-at =
           let k = a .kept in
           let few : few-enough (s .set .n) ≡ true = rw (k .tasks) (both-in _ _ (le-leb _ _ (g .good .some-tasks)) (le-leb _ _ (g .good .few-tasks))) in
-          let number : ltb (s .running .task) (s .set .n) ≡ true = rw (k .tasks, a .running-task) (lt-ltb _ _ (g .valid .task-numbers r an-entry)) in
+          let number : ltb (s .running .task) (s .set .n) ≡ true = rw (k .tasks, a .running-task) (lt-ltb _ _ (g .valid .tasks-below-n r an-entry)) in
           rw (k .same-set, few, g .sound)
           (both-in _ _ (a .ready .possible-counts)
           (both-in _ _ number
@@ -194,7 +207,16 @@ module _ (bytes : List ℕ) (ts : List Task) (X : Tables) (τ : List Entry) wher
           (rw (a .running-task, a .running-job, a .running-start)
           (both-in _ _ (le-leb _ _ (g .valid .released r an-entry)) (le-leb _ _ (g .valid .in-time r an-entry)))))))
 
-      -- and is not the stopped one
+      -- each of its lists has all its slots
+      pub shaped-at : Shaped s
+      shaped-at = record {
+        tasks = a .kept .slots;
+        next = a .ready .next-slots;
+        now = a .ready .offset-slots;
+        first = rw (a .kept .first) (first-length ts X (g .good .few-tasks));
+      }
+
+      -- and it is not the stopped one
       not-stopped : is-stopped s ≡ false
       not-stopped = rw (ne-eqb (s .set .n) 0 (λ z. omega (arith, a .kept .tasks, g .good .some-tasks)))
 
@@ -211,23 +233,21 @@ module _ (bytes : List ℕ) (ts : List Task) (X : Tables) (τ : List Entry) wher
       unfolding go-on
       going-at end lo hi = rw (not-stopped, possible-at, le-ltb end (began s) lo, le-ltb (latest-end s) end hi, go-on)
 
+      -- an end before the running job's start is refused
+      pub refuses-early : (end : ℕ) → end < began s → go-on bytes s end ≡ refused (refusal 21 0) s
+      unfolding go-on
+      refuses-early end l = rw (not-stopped, possible-at, lt-ltb end (began s) l, go-on)
+
       -- within a cycle the next turn starts from the running job's start + C
-      within : suc r < length τ →
-          next-turn bytes s
-          ≡ start-next bytes s c (s .next) (s .running .start + task ts (s .running .task) .time) (s .now .inversions) (s .now .idle)
+      within : suc r < length τ → next-turn bytes s ≡ start-next bytes s c (after-running s)
       within lt =
-          let left : all-started (hyperperiod (set-of s)) (set-of s) (s .next) ≡ false =
-          rw (a .kept .same-set) (not-all-started (a .ready) lt) in
-          rw (left, next-turn)
-          (ap (λ (k : ℕ). start-next bytes s k (s .next) (s .running .start + task (set-of s) (s .running .task) .time) (s .now .inversions) (s .now .idle))
-          (a .cycle)
-          ∙ ap (λ (us : List Task). start-next bytes s c (s .next) (s .running .start + task us (s .running .task) .time) (s .now .inversions) (s .now .idle))
-          (a .kept .same-set))
+          let left : all-started (hyperperiod (set-of s)) (set-of s) (s .next) ≡ false = rw (a .kept .same-set) (not-all-started (a .ready) lt) in
+          rw (left, next-turn) (rw (a .cycle))
 
       -- going on answers the next entry of the cycle
       pub serves-within : (end : ℕ) → suc r < length τ → began s ≤ end → end ≤ latest-end s → Serves c (suc r) (go-on bytes s end)
       serves-within end lt lo hi =
-          let v = serves-next c (suc r) _ _ _ _ s lt (a .kept) (a .ready) in
+          let v = serves-next c (suc r) (after-running s) s lt (a .kept) (a .ready) in
           record { state = v .state; answers = going-at end lo hi ∙ within lt ∙ v .answers; at = v .at }
 
       -- after the last entry of a cycle
@@ -237,21 +257,24 @@ module _ (bytes : List ℕ) (ts : List Task) (X : Tables) (τ : List Entry) wher
         done = rw (a .kept .same-set) (all-have-started (a .ready) (omega arith))
 
         -- the next turn starts from the start of the next cycle
-        to-next-cycle : c < last-cycle →
-            next-turn bytes s
-            ≡ start-next bytes s (suc c) (front (s .set .n) [] (s .next)) 0 (front (s .set .n) (s .first .inversions) (s .now .inversions))
-            (first-offsets ts X .idle)
-        to-next-cycle lc =
-            rw (done, lt-ltb (s .cycle) last-cycle (omega (arith, a .cycle)), next-turn) (rw (a .cycle, a .kept .first))
+        to-next-cycle : c < last-cycle → next-turn bytes s ≡ start-next bytes s (suc c) (at-cycle-start s)
+        to-next-cycle lc = rw (done, lt-ltb (s .cycle) last-cycle (omega (arith, a .cycle)), next-turn) (rw (a .cycle))
+
+        -- where its first entry is next
+        ready-again : Ready 0 (at-cycle-start s)
+        ready-again =
+            rw (a .kept .first)
+            (ready-first _ _ (λ i l. slot-front (s .set .n) [] (s .next) i (omega (arith, a .kept .tasks)))
+            (λ i l. slot-front (s .set .n) (first-offsets ts X .inversions) (s .now .inversions) i (omega (arith, a .kept .tasks)))
+            (front-length (s .set .n) [] (s .next) (omega (arith, a .kept .tasks, a .ready .next-slots, g .good .few-tasks)) ∙ a .ready .next-slots)
+            (front-length (s .set .n) (first-offsets ts X .inversions) (s .now .inversions)
+            (omega (arith, a .kept .tasks, a .ready .offset-slots, g .good .few-tasks))
+            ∙ a .ready .offset-slots))
 
         -- going on answers the first entry of the next cycle
         pub serves-next-cycle : (end : ℕ) → c < last-cycle → began s ≤ end → end ≤ latest-end s → Serves (suc c) 0 (go-on bytes s end)
         serves-next-cycle end lc lo hi =
-            let x = front (s .set .n) [] (s .next) in
-            let offsets = front (s .set .n) (s .first .inversions) (s .now .inversions) in
-            let v = serves-next (suc c) 0 x 0 offsets (first-offsets ts X .idle) s (omega arith) (a .kept)
-            (ready-first x offsets (λ i l. slot-front (s .set .n) [] (s .next) i (omega (arith, a .kept .tasks, g .good .some-tasks)))
-            (λ i l. slot-front (s .set .n) (s .first .inversions) (s .now .inversions) i (omega (arith, a .kept .tasks)) ∙ rw (a .kept .first))) in
+            let v = serves-next (suc c) 0 (at-cycle-start s) s (omega arith) (a .kept) ready-again in
             record { state = v .state; answers = going-at end lo hi ∙ to-next-cycle lc ∙ v .answers; at = v .at }
 
         -- after the last cycle going on refuses

@@ -285,7 +285,7 @@ begins {kind} K (last {s = s} {m = k} {v = v} o e) = absurd (omega (arith, ends-
 begins {kind} K (more {s = s} {m = k} {v = v} o e w) = head-first (follows K (by-after kind s k v e) (o .may)) (o .fits) w
 
 -- records laid out from values that an image can hold, with their layout
-pub record Shaped (kind : ℕ) (m : Mark) (rs : List Record) (l : Layout) : Type 0 where
+pub record HasShape (kind : ℕ) (m : Mark) (rs : List Record) (l : Layout) : Type 0 where
   pub task-values : List (List ℕ)
   pub listed-values : List (List ℕ)
   pub inversion-values : List (List ℕ)
@@ -298,7 +298,7 @@ same-layout : (k l : Layout) → k .tasks ≡ l .tasks → k .listed ≡ l .list
 same-layout k l a b c d = λ i. record { tasks = a i; listed = b i; inversions = c i; ended = d i }
 
 -- records that run from the start to EN are laid out so
-pub shaped : {kind : ℕ} {m : Mark} {rs : List Record} {l : Layout} → Kind kind m → Runs kind start-place rs l → Shaped kind m rs l
+pub shaped : {kind : ℕ} {m : Mark} {rs : List Record} {l : Layout} → Kind kind m → Runs kind start-place rs l → HasShape kind m rs l
 shaped {kind} {m} {rs} {l} K w =
     let b = begins K w in
     let t = all-tasks K (b .n) 1 (size TS) (b .n) (b .rest) l (b .run) in

@@ -1,8 +1,9 @@
 -- Next job numbers count only in the slots of the set's tasks, and keep to the jobs of a cycle. Assumes nothing.
 use mathlib.Core.Path.{_≡_, refl, sym, _∙_, ap}
-use mathlib.Core.Bool.{true, false}
+use mathlib.Core.Bool.{true}
 use mathlib.Core.List.{List, [], _∷_}
-use Prim.Native.Nat.{ℕ, zero, suc, _+_, max, _<_}
+use mathlib.Core.Option.{Option}
+use Prim.Native.Nat.{ℕ, zero, suc, _<_}
 use native.Mathlib.Omega.{arith}
 use lib.Dec.{ltb, leb}
 use lib.ListN.{length}
@@ -13,11 +14,10 @@ use Rattle.rules.specs.declared.Idle.{Idle}
 use Rattle.rules.specs.declared.Inversion.{Inversion}
 use Rattle.rules.specs.Tasks.{task, jobs}
 use Rattle.rules.specs.Setting.{Setting, instant}
-use Rattle.rules.specs.Priority.{slot, start-job, all-started, least-release, late, waiting, entry-breaks, run-lowest, by-priority, setting-of}
-use Rattle.rules.specs.Decision.{idle-for, start-task, wait-till, first-idle, later-idles, start-before, delays, replay-from}
+use Rattle.rules.specs.Priority.{slot, start-job, all-started, least-release, waiting, entry-breaks, run-lowest, by-priority, setting-of}
+use Rattle.rules.specs.Decision.{Choice, idle-for, start-task, wait-till, first-idle, later-idles, start-before, decide, comes-to, step, delays, replay-from}
 use Rattle.rules.specs.Dispatcher.{counts-possible}
-use Rattle.rules.proofs.Cases.{by-bool, by-nat, by-eq, by-choice, both-true, both-in}
-use Rattle.rules.proofs.RoundTrip.{decided-by}
+use Rattle.rules.proofs.Cases.{by-bool, by-eq, by-step, both-true, both-in}
 use Rattle.rules.proofs.PriorityLaws.{slot-start-same, slot-start-other}
 use Rattle.rules.proofs.Starts.{lowest-from-same, decide-same}
 
@@ -60,39 +60,34 @@ module _ (ts : List Task) (h : ℕ) where
   priority-same x y t s =
       ap (run-lowest (length ts)) (lowest-from-same (length ts) 0 (waiting ts h x t) (waiting ts h y t) (λ j l. rw (s j (omega arith))))
 
-  -- and what is decided
-  decided-same : (x y : List ℕ) (t : ℕ) (idles : List Idle) (p : List Inversion) → Same (length ts) x y →
-      decided-by G x t idles p ≡ decided-by G y t idles p
-  decided-same x y t idles p s =
-      decide-same G x y t (first-idle idles t) (delays G p x) (delays G p y) (priority-same x y t s) (λ i l. rw (s i l))
+  -- and what one turn comes to, with the same idle record and the same delays
+  pub step-same : (x y : List ℕ) (f : ℕ) (idle d e : ℕ → Option ℕ) → Same (length ts) x y → ((i : ℕ) → i < length ts → d i ≡ e i) →
+      step G x f idle d ≡ step G y f idle e
+  step-same x y f idle d e s delays =
+      let t : ℕ = instant G y f in
+      rw (least-release-same h ts x y s)
+      (ap (comes-to G x t) (decide-same G x y t (idle t) d e (priority-same x y t s) (λ i l. rw (s i l, delays i l)))
+      ∙ comes-same t (decide G y t (idle t) e))
+    where
+      comes-same : (t : ℕ) (c : Choice) → comes-to G x t c ≡ comes-to G y t c
+      comes-same t (idle-for l) = refl
+      comes-same t (start-task i) = rw (breaks-same x y t i t s, comes-to)
+      comes-same t (wait-till r) = refl
 
   -- replay depends only on the slots of the set's tasks
   pub replay-same : (N : ℕ) (x y : List ℕ) (f : ℕ) (idles : List Idle) (p : List Inversion) → Same (length ts) x y →
       replay-from G N x f idles p ≡ replay-from G N y f idles p
   replay-same zero x y f idles p s = refl
   replay-same (suc N) x y f idles p s =
-      let o = all-started-same h ts x y s in
-      let t : ℕ = instant G y f in
-      let u : instant G x f ≡ t = ap (max f) (least-release-same h ts x y s) in
-      let d = decided-same x y t idles p s in
-      by-bool (all-started h ts y) (λ b. rw (o, b, replay-from))
-      (λ b.
-      let ox : all-started h ts x ≡ false = o ∙ b in
-      by-choice (decided-by G y t idles p)
-      (λ l c. let dx : decided-by G x (instant G x f) idles p ≡ idle-for l = rw u (d ∙ c) in
-      rw (ox, b, dx, c, replay-from) (rw u (replay-same N x y (t + l) (later-idles idles) p s)))
-      (λ i c.
-      let dx : decided-by G x (instant G x f) idles p ≡ start-task i = rw u (d ∙ c) in
-      let e : late (entry-breaks ts h x (instant G x f) i (instant G x f)) ≡ late (entry-breaks ts h y t i t) = rw u (ap late (breaks-same x y t i t s)) in
-      by-nat (late (entry-breaks ts h y t i t))
-      (λ z. let ex : late (entry-breaks ts h x (instant G x f) i (instant G x f)) ≡ 0 = e ∙ z in
-      rw (ox, b, dx, c, ex, z, replay-from)
-      (rw u
+      let all = all-started-same h ts x y s in
+      let turn = step-same x y f (first-idle idles) (delays G p x) (delays G p y) s (λ i l. rw (s i l)) in
+      by-bool (all-started h ts y) (λ o. rw (all, o, replay-from))
+      (λ o. by-step (step G y f (first-idle idles) (delays G p y))
+      (λ r e. rw (all ∙ o, o, turn ∙ e, e, replay-from) (replay-same N x y r (later-idles idles) p s))
+      (λ i t e. rw (all ∙ o, o, turn ∙ e, e, replay-from)
       (ap (start-before (record { task = i; start = t }))
-      (replay-same N (start-job x i) (start-job y i) (G .free-after i t) idles p (start-same (length ts) x y i s)))))
-      (λ m z. let ex : late (entry-breaks ts h x (instant G x f) i (instant G x f)) ≡ suc m = e ∙ z in rw (ox, b, dx, c, ex, z, replay-from)))
-      (λ r c. let dx : decided-by G x (instant G x f) idles p ≡ wait-till r = rw u (d ∙ c) in
-      by-bool (ltb r h) (λ z. rw (ox, b, dx, c, z, replay-from) (replay-same N x y r idles p s)) (λ z. rw (ox, b, dx, c, z, replay-from))))
+      (replay-same N (start-job x i) (start-job y i) (G .free-after i t) idles p (start-same (length ts) x y i s))))
+      (λ r e. rw (all ∙ o, o, turn ∙ e, e, replay-from) (replay-same N x y r idles p s)) (λ number e. rw (all ∙ o, o, turn ∙ e, e, replay-from)))
 
 -- at a cycle's start next job numbers are possible
 pub counts-zero : (h : ℕ) (ts : List Task) (x : List ℕ) → Same (length ts) x [] → counts-possible h ts x ≡ true

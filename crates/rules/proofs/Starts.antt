@@ -5,20 +5,18 @@ use mathlib.Core.List.{List, _∷_}
 use mathlib.Core.Option.{Option, none, some}
 use Prim.Native.Nat.{ℕ, zero, suc, _+_, _≤_, _<_}
 use native.Mathlib.Omega.{arith}
-use lib.Dec.{ltb}
 use Rattle.rules.specs.declared.Entry.{Entry}
 use Rattle.rules.specs.declared.Idle.{Idle}
 use Rattle.rules.specs.declared.Inversion.{Inversion}
 use Rattle.rules.specs.Refusals.{gives}
 use Rattle.rules.specs.Setting.{Setting, lowest-from, lowest, instant}
 use Rattle.rules.specs.Priority.{slot}
-use Rattle.rules.specs.Decision.{first-idle, later-idles, falls-at, start-or-baseline, recorded, decide, delays, replay-from}
-use Rattle.rules.specs.Offsets.{Source, past-own, idle-now, past-idle, next-is, all-readable, shown-delays, next-start-in, next-start, moved}
-use Rattle.rules.proofs.Cases.{by-bool, by-eq, by-nat, by-choice, both-in, clash}
+use Rattle.rules.specs.Decision.{first-idle, later-idles, falls-at, start-or-baseline, recorded, decide, comes-to, step, delays, replay-from}
+use Rattle.rules.specs.Offsets.{Source, past-own, idle-now, past-idle, Standing, standing, next-is, all-readable, shown-delays, shown-step, next-start-in, next-start, moved}
+use Rattle.rules.proofs.Cases.{by-bool, by-eq, both-in, clash}
 use Rattle.rules.proofs.Theory.{Laws, ValidFrom, entry, Pairs}
 use Rattle.rules.proofs.RoundTrip.{decided-by}
-use Rattle.rules.proofs.Replayed.{yields}
-use Rattle.rules.proofs.NextStart.{starts, stops, next, next-more, replay-next}
+use Rattle.rules.proofs.Replayed.{by-replay, yields}
 use Rattle.rules.proofs.Shown.{ShowsIdles, no-idle, an-idle, ShowsInversions, from, idles-readable, shown-readable, own-as-table, past-as-table, slot-put-same, slot-put-other}
 
 -- tests that agree on the numbers in question have the same lowest that passes
@@ -70,32 +68,34 @@ module _ (G : Setting) (S : Source) (p : List Inversion) where
         (λ i l. ap (λ (d : Option ℕ). falls-at d (G .release i (G .next-job x i)) t)
         (own-as-table S i (G .next-job x i) 0 0 p z (slot offsets i) (placed i l))))
 
+    -- and so is what one turn comes to
+    step-as-table : (f o : ℕ) (idles : List Idle) → ShowsIdles S o idles →
+        shown-step G S (standing x f offsets o) ≡ step G x f (first-idle idles) (delays G p x)
+    step-as-table f o idles s = ap (comes-to G x (instant G x f)) (decided-as-table (instant G x f) o idles s)
+
     -- all offsets can be read
     pub readable-at : (o : ℕ) (idles : List Idle) → ShowsIdles S o idles → all-readable G S offsets o ≡ true
     readable-at o idles s =
         both-in _ _ (idles-readable s) (shown-readable S (G .tasks) offsets (λ i. from i (G .next-job x i) p) placed)
 
-    -- a start by tables is the start by offsets that show them, and the ID offset then shows the idle records left
-    pub follows : {A : Type 0} (N f o : ℕ) (idles : List Idle) (i t : ℕ) (k : List Idle) → ShowsIdles S o idles → next G N x f idles p ≡ starts i t k →
-        ((w : ℕ) → next-start-in G S N x f offsets o ≡ next-is i t w → ShowsIdles S w k → A) → A
-    follows zero f o idles i t k s e go = clash (cc)
-    follows (suc N) f o idles i t k s e go =
-        let u : ℕ = instant G x f in
-        let c = decided-as-table u o idles s in
+    -- the first start of replay is the next start by offsets that show the tables, and the ID offset then shows the idle records left
+    follows : {A : Type 0} (N K f o : ℕ) (idles : List Idle) (e : Entry) (σ : List Entry) → N ≤ K → ShowsIdles S o idles →
+        replay-from G N x f idles p ≡ gives (e ∷ σ) →
+        ((M w : ℕ) (k : List Idle) → M < N → next-start-in G S K (standing x f offsets o) ≡ next-is (e .task) (e .start) w → ShowsIdles S w k →
+        replay-from G M (G .start-job x (e .task)) (G .free-after (e .task) (e .start)) k p ≡ gives σ → A) → A
+    follows zero K f o idles e σ le s h go = clash (cc)
+    follows (suc N) zero f o idles e σ le s h go = absurd (omega arith)
+    follows (suc N) (suc K) f o idles e σ le s h go =
+        let c = step-as-table f o idles s in
         let r = readable-at o idles s in
-        by-choice (decided-by G x u idles p)
-        (λ l d. follows N (u + l) (past-idle (S .idle-shown o) o) (later-idles idles) i t k (past-idle-shown s) (rw (d, next) at e)
-        (λ w n y. go w (rw (r, c ∙ d, next-start-in) n) y))
-        (λ j d. by-nat (G .breaks-in-replay x u j u)
-        (λ b. let g : starts j u idles ≡ starts i t k = rw (d, b, next) at e in
-        let a₁ : j ≡ i = cc in
-        let a₂ : u ≡ t = cc in
-        let a₃ : idles ≡ k = cc in
-        go o (rw (r, c ∙ d, b, next-start-in) (rw (a₁, a₂))) (rw a₃ at s))
-        (λ m b. let g : stops (suc m) ≡ starts i t k = rw (d, b, next) at e in clash (cc)))
-        (λ v d. by-bool (ltb v (G .cycle-end))
-        (λ b. follows N v o idles i t k s (rw (d, b, next) at e) (λ w n y. go w (rw (r, c ∙ d, b, next-start-in) n) y))
-        (λ b. let g : stops 18 ≡ starts i t k = rw (d, b, next) at e in clash (cc)))
+        by-replay G N x f idles p (e ∷ σ) h (λ all q. clash (cc))
+        (λ u left d g. follows N K u (past-idle (S .idle-shown o) o) (later-idles idles) e σ (omega arith) (past-idle-shown s) g
+        (λ M w k m n y z. go M w k (omega arith) (rw (r, c ∙ d, next-start-in) n) y z))
+        (λ i t σ′ left d q g.
+        let same : e ≡ record { task = i; start = t } = cc in
+        let rest : σ ≡ σ′ = cc in
+        rw (same, rest) at go N o idles (omega arith) (rw (r, c ∙ d, next-start-in)) s g)
+        (λ u left d g. follows N K u o idles e σ (omega arith) s g (λ M w k m n y z. go M w k (omega arith) (rw (r, c ∙ d, next-start-in) n) y z))
 
   module _ (L : Laws G) (z : Pairs 0 0 p) where
     -- after a start each task's offset shows its records from its next job on again
@@ -109,16 +109,13 @@ module _ (G : Setting) (S : Source) (p : List Inversion) where
         (λ u. rw (slot-put-other offsets i j v u, L .others-stay x i j u) (placed j l))
 
     -- the first start of a replay that gives a timetable, by offsets
-    pub first-start : {A : Type 0} (N : ℕ) (x : G .Started) (f : ℕ) (idles : List Idle) (e : Entry) (σ : List Entry) (offsets : List ℕ) (o : ℕ) →
-        N ≤ suc (G .latest) → replay-from G N x f idles p ≡ gives (e ∷ σ) → Placed x offsets → ShowsIdles S o idles →
-        ((M w : ℕ) (k : List Idle) → M < N → G .all-started x ≡ false → G .breaks x f (e .task) (e .start) ≡ 0 →
-        next-start G S x f offsets o ≡ next-is (e .task) (e .start) w → ShowsIdles S w k →
-        replay-from G M (G .start-job x (e .task)) (G .free-after (e .task) (e .start)) k p ≡ gives σ →
-        Placed (G .start-job x (e .task)) (moved G S x offsets (e .task)) → A) → A
-    first-start N x f idles e σ offsets o le h placed s go =
-        let b : G .breaks x f (e .task) (e .start) ≡ 0 = valid-first (yields G L N x f idles p (e ∷ σ) h) in
-        replay-next G N x f idles p e σ h
-        (λ M k a all n g.
-        follows z x offsets placed (suc (G .latest)) f o idles (e .task) (e .start) k s
-        (next-more G N (suc (G .latest)) x f idles p (e .task) (e .start) k le n)
-        (λ w m c. go M w k a all b m c g (placed-moved x offsets f (e .task) (e .start) b placed)))
+    pub first-start : {A : Type 0} (N : ℕ) (a : Standing (G .Started)) (idles : List Idle) (e : Entry) (σ : List Entry) → N ≤ suc (G .latest) →
+        replay-from G N (a .next) (a .free) idles p ≡ gives (e ∷ σ) → Placed (a .next) (a .offsets) → ShowsIdles S (a .idle) idles →
+        ((M w : ℕ) (k : List Idle) → M < N → G .breaks (a .next) (a .free) (e .task) (e .start) ≡ 0 →
+        next-start G S a ≡ next-is (e .task) (e .start) w → ShowsIdles S w k →
+        replay-from G M (G .start-job (a .next) (e .task)) (G .free-after (e .task) (e .start)) k p ≡ gives σ →
+        Placed (G .start-job (a .next) (e .task)) (moved G S (a .next) (a .offsets) (e .task)) → A) → A
+    first-start N a idles e σ le h placed s go =
+        let b : G .breaks (a .next) (a .free) (e .task) (e .start) ≡ 0 = valid-first (yields G L N (a .next) (a .free) idles p (e ∷ σ) h) in
+        follows z (a .next) (a .offsets) placed N (suc (G .latest)) (a .free) (a .idle) idles e σ le s h
+        (λ M w k m n y g. go M w k m b n y g (placed-moved (a .next) (a .offsets) (a .free) (e .task) (e .start) b placed))

@@ -1,12 +1,12 @@
 -- What the theory asks of a setting, a valid timetable from a point on, and the rules of records as relations. Assumes nothing.
 use mathlib.Core.Path.{_≡_}
-use mathlib.Core.Bool.{Bool, true, false}
+use mathlib.Core.Bool.{true, false}
 use mathlib.Core.List.{List, [], _∷_}
 use Prim.Native.Nat.{ℕ, suc, _+_, _≤_, _<_}
 use Rattle.rules.specs.declared.Entry.{Entry}
 use Rattle.rules.specs.declared.Idle.{Idle}
 use Rattle.rules.specs.declared.Inversion.{Inversion}
-use Rattle.rules.specs.Setting.{Setting, Act, wait}
+use Rattle.rules.specs.Setting.{Setting, wait}
 use Rattle.rules.specs.Irregularities.{at-most}
 
 -- the laws of a setting

@@ -53,7 +53,7 @@ module _ (ts : List Task) (h : ℕ) (τ : List Entry) where
       let at : (j : ℕ) → j < length τ → NoneHolds (entry-tests ts h τ j) =
       λ j l. none-holds-at (entry-tests ts h τ) 0 (length τ) (y .0) j (omega arith) (omega arith) in
       record {
-        task-numbers = λ j l. omega (arith, at j l .0);
+        tasks-below-n = λ j l. omega (arith, at j l .0);
         not-too-many = λ j l. omega (arith, at j l .1 .0);
         released = λ j l. omega (arith, at j l .1 .1 .0);
         no-overlap = λ j l. omega (arith, at (suc j) l .1 .1 .1 .0);
@@ -73,7 +73,7 @@ module _ (ts : List Task) (h : ℕ) (τ : List Entry) where
       both-none-hold (in-turn (entry-tests ts h τ) 0 (length τ)) (in-turn (missing-tests ts h τ) 0 (length ts))
       (none-holds-in-turn (entry-tests ts h τ) 0 (length τ)
       (λ j lo hi. let l : j < length τ = omega arith in (
-        λ c. omega (arith, v .task-numbers j l),
+        λ c. omega (arith, v .tasks-below-n j l),
         (
           λ c. omega (arith, v .not-too-many j l),
           (λ c. omega (arith, v .released j l), (no-overlaps v j l, (λ c. omega (arith, v .in-time j l), tt))),

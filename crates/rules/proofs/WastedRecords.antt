@@ -23,14 +23,14 @@ use Rattle.rules.specs.Irregularities.{at-most, runs, forced-idles, inve
 use Rattle.rules.specs.Decision.{delay-of, replay}
 use Rattle.rules.specs.Judging.{inversion-in-range, records-fault, same-idle, same-inversion, inversions-differ, records-differ, tables-differ, tables, compared, judge-tables}
 use Rattle.rules.specs.Marks.{ID, PV, size}
-use Rattle.rules.specs.Offsets.{Shown, last-offset, lent, past-own, next-is, stuck, next-start, tables-offset}
+use Rattle.rules.specs.Offsets.{Shown, last-offset, lent, past-own, standing, next-is, stuck, next-start, tables-offset}
 use Rattle.rules.proofs.Cases.{by-bool, by-option, by-eq, by-pair, clash, both-true, none-first, or-else-none}
 use Rattle.rules.proofs.Theory.{ValidFrom, Pairs}
 use Rattle.rules.proofs.Pairs.{at-most-le, at-most-next, above-ne, delay-here, delay-there, delay-bound, delay-insert-same, Sub, sub-nil, sub-skip, sub-same, sub-of}
 use Rattle.rules.proofs.Derived.{Every, inversions-pairs}
 use Rattle.rules.proofs.Replayed.{yields}
 use Rattle.rules.proofs.PriorityLaws.{slot-empty, slot-start-same, slot-start-other}
-use Rattle.rules.proofs.RisingPairs.{not-below}
+use Rattle.rules.proofs.RisingPairs.{not-below, member-passes}
 use Rattle.rules.proofs.Records.{keep-records}
 use Rattle.rules.proofs.JudgedTables.{laws}
 use Rattle.rules.proofs.PossibleStates.{none-left}
@@ -38,7 +38,7 @@ use Rattle.rules.proofs.Shown.{not-both, delay-above}
 use Rattle.rules.proofs.Slots.{Same, priority-same}
 use Rattle.rules.proofs.ShownAt.{Stand}
 use Rattle.rules.proofs.OneMoreStart.{after-starts, inversions-other, inversions-own}
-use Rattle.rules.proofs.OffsetReplay.{first-inversion-offset, before-pair, before-with, before-few, inversion-after, past-without, past-with, Replays, replay-done, replay-stuck, next-replayed, shown-delay}
+use Rattle.rules.proofs.OffsetReplay.{first-inversion-offset, before-pair, before-with, before-few, inversion-after, past-without, past-with, ReplaysAt, replay-done, replay-stuck, next-replayed, shown-delay}
 
 -- is there no delay
 abbrev pub is-missing : Option ℕ → Bool
@@ -74,11 +74,6 @@ member-delay {r} (s ∷ p) (List·Memᴰ·tail m) e =
     by-pair (s .task) (r .task) (s .job) (r .job)
     (λ u v. let g : some (s .delay) ≡ none = sym (delay-here s p (r .task) (r .job) u v) ∙ e in clash (cc))
     (λ n. member-delay p m (sym (delay-there s p (r .task) (r .job) n) ∙ e))
-
--- each record of a table passes a test that every one passes
-member-passes : {r : Inversion} (passes : Inversion → Bool) (p : List Inversion) → Every passes p → List·Memᴰ r p → passes r ≡ true
-member-passes passes (s ∷ p) z (List·Memᴰ·head q) = rw q (z .0)
-member-passes passes (s ∷ p) z (List·Memᴰ·tail m) = member-passes passes p (z .1) m
 
 -- where one record more passes, the first that passes is that record or the one that was first
 before-more : (a b : Inversion → Bool) (i k d c e : ℕ) (p : List Inversion) → Pairs c e p → delay-of p i k ≡ some d →
@@ -220,9 +215,9 @@ module _ {bytes : List ℕ} {ts : List Task} {X : Tables} {n : ℕ} (st : Stand 
   }
 
   -- a start
-  module _ {σ : List Entry} {x : List ℕ} {f : ℕ} {offsets : List ℕ} {o wasted : ℕ} (R : Replays bytes ts X σ x f offsets o)
+  module _ {σ : List Entry} {x : List ℕ} {f : ℕ} {offsets : List ℕ} {o wasted : ℕ} (R : ReplaysAt bytes ts X σ x f offsets o)
       (W : Wastes ts X σ x wasted) (left : all-started (hyperperiod ts) ts x ≡ false) (i t w : ℕ)
-      (next : next-start (setting ts) (lent bytes ts) x f offsets o ≡ next-is i t w) where
+      (next : next-start (setting ts) (lent bytes ts) (standing x f offsets o) ≡ next-is i t w) where
     -- the starts with this one more
     abbrev more : List Entry
     more = σ ++ (record { task = i; start = t } ∷ [])
@@ -317,7 +312,7 @@ module _ {bytes : List ℕ} {ts : List Task} {X : Tables} {n : ℕ} (st : Stand 
         })
 
   -- all jobs have started
-  module _ {σ : List Entry} {x : List ℕ} {f : ℕ} {offsets : List ℕ} {o wasted : ℕ} (R : Replays bytes ts X σ x f offsets o)
+  module _ {σ : List Entry} {x : List ℕ} {f : ℕ} {offsets : List ℕ} {o wasted : ℕ} (R : ReplaysAt bytes ts X σ x f offsets o)
       (W : Wastes ts X σ x wasted) (done : all-started (hyperperiod ts) ts x ≡ true) where
     -- the starts are a valid timetable
     pub done-valid : ValidFrom (setting ts) [] 0 σ
@@ -415,10 +410,10 @@ module _ {bytes : List ℕ} {ts : List Task} {X : Tables} {n : ℕ} (st : Stand 
       or-else-none (first (set-fault ts) (records-fault ts (hyperperiod ts) X)) (then (replay (setting ts) [] X) (compared ts X))
       (none-first (set-fault ts) (records-fault ts (hyperperiod ts) X) good (keep-records ts (hyperperiod ts) X (st .keep-rules)))
 
-  module _ {σ : List Entry} {x : List ℕ} {f : ℕ} {offsets : List ℕ} {o : ℕ} (R : Replays bytes ts X σ x f offsets o) where
+  module _ {σ : List Entry} {x : List ℕ} {f : ℕ} {offsets : List ℕ} {o : ℕ} (R : ReplaysAt bytes ts X σ x f offsets o) where
     -- the search for the next start is stuck: the tables are refused with 18 and the number of starts
     pub judged-late : all-started (hyperperiod ts) ts x ≡ false → (number : ℕ) →
-        next-start (setting ts) (lent bytes ts) x f offsets o ≡ stuck number → judge-tables ts X ≡ refuses (refusal 18 (length σ))
+        next-start (setting ts) (lent bytes ts) (standing x f offsets o) ≡ stuck number → judge-tables ts X ≡ refuses (refusal 18 (length σ))
     judged-late left number e = judged-by-replay ∙ ap (λ z. then z (compared ts X)) (replay-stuck st good R left number e)
 
     -- with all jobs started, what comparing comes to

@@ -1,4 +1,4 @@
--- P1 to P12 hold of the definitions: the whole table is worked out. Assumes nothing.
+-- P1 to P12 and document 000's figure 1 hold of the definitions: the whole table is worked out. Assumes nothing.
 use mathlib.Core.Path.{_≡_, refl}
 use mathlib.Core.List.{map}
 use lib.ListN.{length}

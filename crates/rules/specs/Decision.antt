@@ -7,7 +7,6 @@ use lib.Dec.{ltb, eqb}
 use Rattle.rules.specs.declared.Entry.{Entry}
 use Rattle.rules.specs.declared.Idle.{Idle}
 use Rattle.rules.specs.declared.Inversion.{Inversion}
-use Rattle.rules.specs.declared.Refusal.{Refusal}
 use Rattle.rules.specs.Refusals.{Judged, gives, refuses, refusal}
 use Rattle.rules.specs.Tasks.{both}
 use Rattle.rules.specs.Setting.{Setting, Act, run, wait, Tables, lowest, instant}
@@ -17,6 +16,14 @@ pub data Choice : Type 0 where
   idle-for : ℕ → Choice
   start-task : ℕ → Choice
   wait-till : ℕ → Choice
+
+-- what one turn comes to: to idle till an instant, which uses the idle record; to start a task's next job at an instant; to wait till an instant, as the
+-- baseline does; or to stop, with a number
+pub data Effect : Type 0 where
+  idles-till : ℕ → Effect
+  starts : ℕ → ℕ → Effect
+  waits-till : ℕ → Effect
+  stops : ℕ → Effect
 
 -- the delay that a table has for a job
 abbrev pub delay-of : List Inversion → ℕ → ℕ → Option ℕ
@@ -67,24 +74,32 @@ module _ (G : Setting) where
   decide x t (some length) delay = idle-for length
   decide x t none delay = start-or-baseline x t (lowest (G .tasks) (recorded delay x t))
 
+  -- what a decision at t comes to: a start that breaks a rule stops replay with its number, and so does a wait past the end of the cycle, with 18
+  abbrev pub comes-to : G .Started → ℕ → Choice → Effect
+  comes-to x t (idle-for l) = idles-till (t + l)
+  comes-to x t (start-task i) = elim (G .breaks-in-replay x t i t) [ zero ↦ starts i t | suc number ↦ stops (suc number) ]
+  comes-to x t (wait-till r) = elim (ltb r (G .cycle-end)) [ true ↦ waits-till r | false ↦ stops 18 ]
+
+  -- one turn, from what has started and the instant from which the processor is free, by the length of an idle record to be used at an instant and the
+  -- delay that each task's next job has: with no job waiting, time moves to the next release
+  abbrev pub step : G .Started → ℕ → (ℕ → Option ℕ) → (ℕ → Option ℕ) → Effect
+  step x f idle delay = let t : ℕ = instant G x f in comes-to x t (decide x t (idle t) delay)
+
   -- the delay that a table has for each task's next job
   abbrev pub delays : List Inversion → G .Started → ℕ → Option ℕ
   delays p x i = delay-of p i (G .next-job x i)
 
-  -- replay, in enough turns: with no job waiting, time moves to the next release; it ends when all jobs have started
+  -- replay, in enough turns: it ends when all jobs have started
   abbrev pub replay-from : ℕ → G .Started → ℕ → List Idle → List Inversion → Judged (List Entry)
   replay-from zero x f idles p = refuses (refusal 18 0)
   replay-from (suc turns) x f idles p =
       elim (G .all-started x) [
         | true ↦ gives []
-        | false ↦ elim (decide x (instant G x f) (first-idle idles (instant G x f)) (delays p x)) [
-          | idle-for l ↦ replay-from turns x (instant G x f + l) (later-idles idles) p
-          | start-task i ↦ elim (G .breaks-in-replay x (instant G x f) i (instant G x f)) [
-            | zero ↦ start-before (record { task = i; start = instant G x f })
-                (replay-from turns (G .start-job x i) (G .free-after i (instant G x f)) idles p)
-            | suc number ↦ refuses (refusal (suc number) 0)
-          ]
-          | wait-till r ↦ elim (ltb r (G .cycle-end)) [ true ↦ replay-from turns x r idles p | false ↦ refuses (refusal 18 0) ]
+        | false ↦ elim (step x f (first-idle idles) (delays p x)) [
+          | idles-till r ↦ replay-from turns x r (later-idles idles) p
+          | starts i t ↦ start-before (record { task = i; start = t }) (replay-from turns (G .start-job x i) (G .free-after i t) idles p)
+          | waits-till r ↦ replay-from turns x r idles p
+          | stops number ↦ refuses (refusal number 0)
         ]
       ]
 

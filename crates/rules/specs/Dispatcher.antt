@@ -4,26 +4,23 @@ use mathlib.Core.Path.{_≡_}
 use mathlib.Core.Bool.{Bool, true, false}
 use mathlib.Core.List.{List, [], _∷_, _++_}
 use mathlib.Core.Option.{Option, none, some}
-use Prim.Native.Nat.{ℕ, zero, suc, _+_, _*_, _-_, _≤_, _<_}
+use Prim.Native.Nat.{ℕ, zero, suc, _+_, _*_, _-_}
 use lib.Dec.{ltb, leb, eqb}
 use lib.ListN.{length, take, replicate}
 use Rattle.fields.specs.Body.{head₀, tail₀}
 use Rattle.rules.specs.declared.Task.{Task}
 use Rattle.rules.specs.declared.Entry.{Entry}
 use Rattle.rules.specs.declared.Refusal.{Refusal}
-use Rattle.rules.specs.declared.Start.{Start as StartOf}
-use Rattle.rules.specs.declared.StartAnswer.{StartAnswer}
 use Rattle.rules.specs.declared.StartAnswer.the-variants.{Start, Refused}
 use Rattle.rules.specs.declared.Offsets.{Offsets as OffsetsOf}
 use Rattle.rules.specs.declared.Dispatcher.{Dispatcher as State}
 use Rattle.rules.specs.declared.Turn.{Turn}
 use Rattle.rules.specs.Refusals.{Judged, gives, refuses, refusal}
-use Rattle.rules.specs.Tasks.{both, limits, task, release, due, jobs, hyperperiod, memory-fault}
-use Rattle.rules.specs.Setting.{Setting}
+use Rattle.rules.specs.Tasks.{both, limits, largest-number, task, release, due, jobs, hyperperiod, memory-fault}
 use Rattle.rules.specs.Priority.{slot, start-job, all-started, setting}
 use Rattle.rules.specs.Judging.{judge-tables}
 use Rattle.rules.specs.Operations.{Tabled, read-tables}
-use Rattle.rules.specs.Offsets.{NextStart, next-is, stuck, next-start, moved, lent, first-offsets}
+use Rattle.rules.specs.Offsets.{Standing, NextStart, next-is, stuck, next-start, moved, lent, first-offsets}
 
 -- all numbers of a state, in their order
 abbrev pub task-numbers : List Task → List ℕ
@@ -120,38 +117,56 @@ abbrev pub front : ℕ → List ℕ → List ℕ → List ℕ
 front zero a b = b
 front (suc n) a b = head₀ a ∷ front n (tail₀ a) (tail₀ b)
 
--- a start of task i at t in cycle c, from next job numbers x and tasks' offsets
-abbrev pub started : List ℕ → State → ℕ → List ℕ → List ℕ → NextStart → Turn
-started bytes s c x offsets (next-is i t o) = record {
-  answer = Start (record { task = i; job = slot x i; cycle = c; time = c * hyperperiod (set-of s) + t });
+-- what the next start answers in cycle c, and the state after it
+abbrev pub started : List ℕ → State → ℕ → Standing (List ℕ) → NextStart → Turn
+started bytes s c a (next-is i t o) = record {
+  answer = Start (record { task = i; job = slot (a .next) i; cycle = c; time = c * hyperperiod (set-of s) + t });
   state = record {
     set = s .set;
-    next = start-job x i;
+    next = start-job (a .next) i;
     cycle = c;
-    running = record { task = i; job = slot x i; start = t };
-    now = record { idle = o; inversions = moved (setting (set-of s)) (lent bytes (set-of s)) x offsets i };
+    running = record { task = i; job = slot (a .next) i; start = t };
+    now = record { idle = o; inversions = moved (setting (set-of s)) (lent bytes (set-of s)) (a .next) (a .offsets) i };
     first = s .first;
   };
 }
-started bytes s c x offsets (stuck number) = refused (refusal 25 0) stopped
+started bytes s c a (stuck number) = refused (refusal 25 0) stopped
 
-abbrev pub start-next : List ℕ → State → ℕ → List ℕ → ℕ → List ℕ → ℕ → Turn
-start-next bytes s c x f offsets o =
-    started bytes s c x offsets (next-start (setting (set-of s)) (lent bytes (set-of s)) x f offsets o)
+-- the next start from there
+abbrev pub start-next : List ℕ → State → ℕ → Standing (List ℕ) → Turn
+start-next bytes s c a = started bytes s c a (next-start (setting (set-of s)) (lent bytes (set-of s)) a)
 
 -- 24, when all jobs of this cycle have started
 abbrev pub last-cycle : ℕ
-last-cycle = 4294967295
+last-cycle = largest-number
 
--- the next cycle begins at 0, with next jobs 0 and the offsets as at its start; the next free instant is the running job's start + C
+-- the next free instant is the running job's start + C
+abbrev pub after-running : State → Standing (List ℕ)
+after-running s = record {
+  next = s .next;
+  free = s .running .start + task (set-of s) (s .running .task) .time;
+  offsets = s .now .inversions;
+  idle = s .now .idle;
+}
+
+-- the next cycle begins at 0, with next jobs 0 and the offsets as at its start
+abbrev pub at-cycle-start : State → Standing (List ℕ)
+at-cycle-start s = record {
+  next = front (s .set .n) [] (s .next);
+  free = 0;
+  offsets = front (s .set .n) (s .first .inversions) (s .now .inversions);
+  idle = s .first .idle;
+}
+
+-- the next job of this cycle or, when all have started, the first of the next
 abbrev pub next-turn : List ℕ → State → Turn
 next-turn bytes s =
     elim (all-started (hyperperiod (set-of s)) (set-of s) (s .next)) [
       | true ↦ elim (ltb (s .cycle) last-cycle) [
-        | true ↦ start-next bytes s (suc (s .cycle)) (front (s .set .n) [] (s .next)) 0 (front (s .set .n) (s .first .inversions) (s .now .inversions)) (s .first .idle)
+        | true ↦ start-next bytes s (suc (s .cycle)) (at-cycle-start s)
         | false ↦ refused (refusal 24 0) s
       ]
-      | false ↦ start-next bytes s (s .cycle) (s .next) (s .running .start + task (set-of s) (s .running .task) .time) (s .now .inversions) (s .now .idle)
+      | false ↦ start-next bytes s (s .cycle) (after-running s)
     ]
 
 -- going on, in the order 23, 25 for the state, 21, 22, 24, 25 for bytes
@@ -182,9 +197,13 @@ fresh i = record {
   first = first-offsets (i .tasks) (i .tables);
 }
 
+-- the first start is looked for from instant 0
+abbrev pub at-begin : State → Standing (List ℕ)
+at-begin s = record { next = s .next; free = 0; offsets = s .now .inversions; idle = s .now .idle }
+
 -- beginning runs full acceptance and answers the first start; a refused beginning hands back the stopped state
 abbrev pub begin-accepted : List ℕ → Tabled → Judged (List Entry) → Turn
-begin-accepted bytes i (gives τ) = start-next bytes (fresh i) 0 zeros 0 (fresh i .now .inversions) (fresh i .now .idle)
+begin-accepted bytes i (gives τ) = start-next bytes (fresh i) 0 (at-begin (fresh i))
 begin-accepted bytes i (refuses r) = refused r stopped
 
 abbrev pub begin-framed : List ℕ → Judged Tabled → Turn

@@ -1,23 +1,24 @@
 -- The order of the dispatcher's refusals and the state that each leaves: document 01, "The dispatcher". Each condition is a predicate of its own.
 -- Assumes nothing.
 use mathlib.Core.Path.{_≡_}
-use mathlib.Core.Bool.{Bool, true, false}
 use mathlib.Core.List.{List, [], _∷_}
 use mathlib.Core.Option.{Option, none, some}
-use Prim.Native.Nat.{ℕ, zero, suc, _+_, _≤_, _<_}
+use Prim.Native.Nat.{ℕ, suc, _+_, _≤_, _<_}
 use lib.ListN.{length}
 use Rattle.rules.specs.declared.Task.{Task}
+use Rattle.rules.specs.declared.Idle.{Idle}
+use Rattle.rules.specs.declared.Inversion.{Inversion}
 use Rattle.rules.specs.declared.Refusal.{Refusal}
 use Rattle.rules.specs.declared.StartAnswer.{StartAnswer}
 use Rattle.rules.specs.declared.StartAnswer.the-variants.{Start, Refused}
 use Rattle.rules.specs.declared.Dispatcher.{Dispatcher as State}
 use Rattle.rules.specs.Refusals.{Test, test}
-use Rattle.rules.specs.Tasks.{limits, task, release, due, jobs, GoodSet}
-use Rattle.rules.specs.Setting.{Setting, instant}
-use Rattle.rules.specs.Priority.{slot, setting}
-use Rattle.rules.specs.Decision.{Choice, idle-for, start-task, decide}
-use Rattle.rules.specs.Offsets.{Source, lent, all-readable, shown-delays, idle-now, past-idle}
-use Rattle.rules.specs.Dispatcher.{numbers, stopped, set-of, began, latest-end, last-cycle, front}
+use Rattle.rules.specs.Tasks.{limits, task, release, due, jobs, hyperperiod, GoodSet}
+use Rattle.rules.specs.Priority.{slot}
+use Rattle.rules.specs.Decision.{Choice, idle-for, start-task}
+use Rattle.rules.specs.DecisionRule.{NextInstant, Decides, TooLate}
+use Rattle.rules.specs.Offsets.{unreadable, shows, Source, Standing, lent}
+use Rattle.rules.specs.Dispatcher.{numbers, stopped, set-of, began, latest-end, last-cycle, after-running, at-cycle-start}
 
 -- 23: every number is 0
 abbrev pub Stopped : State → Type 0
@@ -41,27 +42,36 @@ pub record CycleDone (s : State) : Type 0 where
   pub good-set : GoodSet (set-of s) h
   pub done : (i : ℕ) → i < length (set-of s) → jobs h (task (set-of s) i) ≤ slot (s .next) i
 
--- 25 for bytes: a decision meets an offset that shows nothing that may stand there, or a job that replay would refuse, at once or after idling
-module _ (ts : List Task) (S : Source) where
-  abbrev pub Decided : List ℕ → ℕ → List ℕ → ℕ → Choice → Type 0
-  Decided x f offsets o c =
-      decide (setting ts) x (instant (setting ts) x f) (idle-now (S .idle-shown o) (instant (setting ts) x f)) (shown-delays (setting ts) S x offsets) ≡ c
+-- the decision by the records that offsets show: the first unused idle record at the ID offset, a task's inversion record at the task's
+abbrev pub DecidesAt : List Task → ℕ → Source → Standing (List ℕ) → ℕ → Choice → Type 0
+DecidesAt ts h S a t c =
+    Decides ts h (λ (r : Idle). (after : ℕ) × (S .idle-shown (a .idle) ≡ shows r after))
+    (λ (r : Inversion). (after : ℕ) × (S .inversion-shown (slot (a .offsets) (r .task)) ≡ shows r after)) (a .next) t c
 
-  pub data StuckAt : List ℕ → ℕ → List ℕ → ℕ → Type 0 where
-    unreadable-record : {x : List ℕ} {f : ℕ} {offsets : List ℕ} {o : ℕ} → all-readable (setting ts) S offsets o ≡ false → StuckAt x f offsets o
-    refused-job : {x : List ℕ} {f : ℕ} {offsets : List ℕ} {o i : ℕ} → all-readable (setting ts) S offsets o ≡ true → Decided x f offsets o (start-task i) →
-        (setting ts .breaks-in-replay x (instant (setting ts) x f) i (instant (setting ts) x f) ≡ 0 → ⊥) → StuckAt x f offsets o
-    after-idle : {x : List ℕ} {f : ℕ} {offsets : List ℕ} {o l : ℕ} → all-readable (setting ts) S offsets o ≡ true → Decided x f offsets o (idle-for l) →
-        StuckAt x (instant (setting ts) x f + l) offsets (past-idle (S .idle-shown o) o) → StuckAt x f offsets o
+-- 25 for bytes: a decision meets an offset that shows nothing that may stand there, or a job that is too late, at once or after idling
+module _ (ts : List Task) (h : ℕ) (S : Source) where
+  -- nothing that may stand there: at the ID offset, or at that of a task below n
+  pub data Unreadable (a : Standing (List ℕ)) : Type 0 where
+    at-idle : S .idle-shown (a .idle) ≡ unreadable → Unreadable a
+    at-task : {i : ℕ} → i < length ts → S .inversion-shown (slot (a .offsets) i) ≡ unreadable → Unreadable a
 
--- from where the next start is looked for: at a cycle's change from instant 0, else from the running job's start + C
+  -- what is decided next, and at which instant: all current offsets are read at every decision
+  pub record DecidesFrom (a : Standing (List ℕ)) (t : ℕ) (c : Choice) : Type 0 where
+    pub all-read : Unreadable a → ⊥
+    pub at-instant : NextInstant ts h (a .next) (a .free) t
+    pub decides : DecidesAt ts h S a t c
+
+  -- a used ID moves its offset to the record after it
+  pub data StuckAt : Standing (List ℕ) → Type 0 where
+    unreadable-record : {a : Standing (List ℕ)} → Unreadable a → StuckAt a
+    late-job : {a : Standing (List ℕ)} {t i : ℕ} → DecidesFrom a t (start-task i) → TooLate ts (a .next) i t → StuckAt a
+    after-idle : {a : Standing (List ℕ)} {t after : ℕ} {r : Idle} → S .idle-shown (a .idle) ≡ shows r after → DecidesFrom a t (idle-for (r .length)) →
+        StuckAt (record { next = a .next; free = t + r .length; offsets = a .offsets; idle = after }) → StuckAt a
+
+-- the search for the next start is stuck: in the next cycle from its start on, in the same cycle from the running job's start + C
 pub data StuckNext (bytes : List ℕ) (s : State) : Type 0 where
-  next-cycle : CycleDone s →
-      StuckAt (set-of s) (lent bytes (set-of s)) (front (s .set .n) [] (s .next)) 0 (front (s .set .n) (s .first .inversions) (s .now .inversions)) (s .first .idle) →
-      StuckNext bytes s
-  same-cycle : (CycleDone s → ⊥) →
-      StuckAt (set-of s) (lent bytes (set-of s)) (s .next) (s .running .start + task (set-of s) (s .running .task) .time) (s .now .inversions) (s .now .idle) →
-      StuckNext bytes s
+  next-cycle : CycleDone s → StuckAt (set-of s) (hyperperiod (set-of s)) (lent bytes (set-of s)) (at-cycle-start s) → StuckNext bytes s
+  same-cycle : (CycleDone s → ⊥) → StuckAt (set-of s) (hyperperiod (set-of s)) (lent bytes (set-of s)) (after-running s) → StuckNext bytes s
 
 -- the tests of going on, in the document's order
 abbrev pub going-tests : List ℕ → State → ℕ → List Test
@@ -74,10 +84,10 @@ going-tests bytes s end =
     ∷ test 25 0 (StuckNext bytes s)
     ∷ []
 
--- the refusal of an answer, if it is one
-abbrev pub refusal-in : StartAnswer → Option Refusal
-refusal-in (Start s) = none
-refusal-in (Refused r) = some r
+-- the refusal of a start answer, if it is one
+abbrev pub start-refusal : StartAnswer → Option Refusal
+start-refusal (Start s) = none
+start-refusal (Refused r) = some r
 
 -- the state that each refusal of going on leaves
 pub data Leaves (s : State) : ℕ → State → Type 0 where

@@ -1,20 +1,18 @@
 -- Judging a timetable and judging tables: document 01's entries (11 to 16), records' rules (17), replay (18) and comparison (19). Assumes nothing.
-use mathlib.Core.Path.{_≡_}
 use mathlib.Core.Bool.{Bool, true, false}
 use mathlib.Core.List.{List, [], _∷_, _++_}
 use mathlib.Core.Option.{Option, none, some}
 use Prim.Native.Nat.{ℕ, zero, suc, _+_, _-_, _≤_, _<_}
 use lib.Dec.{ltb, leb, eqb}
-use lib.ListN.{length, getD}
+use lib.ListN.{length}
 use Rattle.fields.specs.Body.{head₀, tail₀}
 use Rattle.rules.specs.declared.Task.{Task}
 use Rattle.rules.specs.declared.Entry.{Entry}
 use Rattle.rules.specs.declared.Idle.{Idle}
 use Rattle.rules.specs.declared.Inversion.{Inversion}
 use Rattle.rules.specs.declared.Refusal.{Refusal}
-use Rattle.rules.specs.Refusals.{Judged, gives, refuses, or-else, then, refusal, first, unless, Test, test}
-use Rattle.rules.specs.Tasks.{both, task, release, due, jobs, hyperperiod, set-fault}
-use Rattle.rules.specs.Timetable.{entry-at, job-at, end-at}
+use Rattle.rules.specs.Refusals.{Judged, gives, or-else, then, refusal, first, unless}
+use Rattle.rules.specs.Tasks.{both, task, jobs, hyperperiod, set-fault}
 use Rattle.rules.specs.Setting.{Setting, Tables}
 use Rattle.rules.specs.Priority.{setting}
 use Rattle.rules.specs.Irregularities.{at-most, tables-of}

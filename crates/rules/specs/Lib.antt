@@ -5,6 +5,7 @@ pub mod Setting
 pub mod Priority
 pub mod Irregularities
 pub mod Decision
+pub mod DecisionRule
 pub mod Judging
 pub mod Order
 pub mod Marks
@@ -15,5 +16,7 @@ pub mod Offsets
 pub mod Dispatcher
 pub mod Calls
 pub mod GoingOn
+pub mod SlotsAbove
+pub mod StandingOffsets
 pub mod Promised
 pub mod Worked

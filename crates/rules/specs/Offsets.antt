@@ -11,12 +11,12 @@ use Rattle.rules.specs.declared.Task.{Task}
 use Rattle.rules.specs.declared.Idle.{Idle}
 use Rattle.rules.specs.declared.Inversion.{Inversion}
 use Rattle.rules.specs.declared.Offsets.{Offsets as OffsetsOf}
-use Rattle.rules.specs.Tasks.{both, hyperperiod, limits}
-use Rattle.rules.specs.Setting.{Setting, Tables, instant}
+use Rattle.rules.specs.Tasks.{both, hyperperiod, limits, largest-number}
+use Rattle.rules.specs.Setting.{Setting, Tables}
 use Rattle.rules.specs.Priority.{slot}
-use Rattle.rules.specs.Decision.{Choice, idle-for, start-task, wait-till, decide, idle-at}
+use Rattle.rules.specs.Decision.{Effect, idles-till, starts, waits-till, stops, step, idle-at}
 use Rattle.rules.specs.Judging.{idle-in-range, inversion-in-range}
-use Rattle.rules.specs.Marks.{Mark, TS, TK, SL, ID, PV, EN, row, marks, size, mark-in, values}
+use Rattle.rules.specs.Marks.{Mark, TS, TK, SL, ID, PV, EN, marks, size, mark-in, values}
 use Rattle.rules.specs.Image.{Record, record-of, to-idle, to-inversion}
 
 -- what an offset shows: nothing that may stand there, no record of the kind looked for, or a record and the offset after it
@@ -32,7 +32,7 @@ pub record Source : Type 0 where
 
 -- an offset has 32 bits: a record is whole if it ends inside the image and at or before this byte
 abbrev pub last-offset : ℕ
-last-offset = 4294967295
+last-offset = largest-number
 
 abbrev pub whole-record : ℕ → List ℕ → Option Mark → Option Record
 whole-record o front none = none
@@ -117,6 +117,17 @@ abbrev pub put-slot : List ℕ → ℕ → ℕ → List ℕ
 put-slot x zero v = v ∷ tail₀ x
 put-slot x (suc i) v = head₀ x ∷ put-slot (tail₀ x) i v
 
+-- where the next start is looked for: what has started, the instant from which the processor is free, the tasks' offsets and the ID offset
+pub record Standing (Started : Type 0) : Type 0 where
+  pub next : Started
+  pub free : ℕ
+  pub offsets : List ℕ
+  pub idle : ℕ
+
+-- its four parts in one
+abbrev pub standing : {Started : Type 0} → Started → ℕ → List ℕ → ℕ → Standing Started
+standing x f offsets o = record { next = x; free = f; offsets = offsets; idle = o }
+
 -- the next start: task, instant, and the ID offset after it; or the number of what stops it
 pub data NextStart : Type 0 where
   next-is : ℕ → ℕ → ℕ → NextStart
@@ -127,24 +138,39 @@ module _ (G : Setting) (S : Source) where
   abbrev pub all-readable : List ℕ → ℕ → Bool
   all-readable offsets o = both (readable (S .idle-shown o)) (tasks-readable S (G .tasks) offsets)
 
+  -- the delay that each task's offset shows for its next job
   abbrev pub shown-delays : G .Started → List ℕ → ℕ → Option ℕ
   shown-delays x offsets i = own-delay (S .inversion-shown (slot offsets i)) i (G .next-job x i)
 
-  -- in enough turns: what has started, the instant from which the processor is free, the tasks' offsets, the ID offset
-  abbrev pub next-start-in : ℕ → G .Started → ℕ → List ℕ → ℕ → NextStart
-  next-start-in zero x f offsets o = stuck 18
-  next-start-in (suc turns) x f offsets o =
-      elim (all-readable offsets o) [
+  -- one turn, by the records that the offsets show
+  abbrev pub shown-step : Standing (G .Started) → Effect
+  shown-step a = step G (a .next) (a .free) (idle-now (S .idle-shown (a .idle))) (shown-delays (a .next) (a .offsets))
+
+  -- after an idle till an instant: a used ID moves its offset to the record after it
+  abbrev pub idled : Standing (G .Started) → ℕ → Standing (G .Started)
+  idled a r = record { next = a .next; free = r; offsets = a .offsets; idle = past-idle (S .idle-shown (a .idle)) (a .idle) }
+
+  -- after a wait till an instant
+  abbrev pub waited : Standing (G .Started) → ℕ → Standing (G .Started)
+  waited a r = record { next = a .next; free = r; offsets = a .offsets; idle = a .idle }
+
+  -- the next start, in enough turns
+  abbrev pub next-start-in : ℕ → Standing (G .Started) → NextStart
+  next-start-in zero a = stuck 18
+  next-start-in (suc turns) a =
+      elim (all-readable (a .offsets) (a .idle)) [
         | false ↦ stuck 25
-        | true ↦ elim (decide G x (instant G x f) (idle-now (S .idle-shown o) (instant G x f)) (shown-delays x offsets)) [
-          | idle-for l ↦ next-start-in turns x (instant G x f + l) offsets (past-idle (S .idle-shown o) o)
-          | start-task i ↦ elim (G .breaks-in-replay x (instant G x f) i (instant G x f)) [ zero ↦ next-is i (instant G x f) o | suc number ↦ stuck (suc number) ]
-          | wait-till r ↦ elim (ltb r (G .cycle-end)) [ true ↦ next-start-in turns x r offsets o | false ↦ stuck 18 ]
+        | true ↦ elim (shown-step a) [
+          | idles-till r ↦ next-start-in turns (idled a r)
+          | starts i t ↦ next-is i t (a .idle)
+          | waits-till r ↦ next-start-in turns (waited a r)
+          | stops number ↦ stuck number
         ]
       ]
 
-  abbrev pub next-start : G .Started → ℕ → List ℕ → ℕ → NextStart
-  next-start x f offsets o = next-start-in (suc (G .latest)) x f offsets o
+  -- every turn takes at least one tick
+  abbrev pub next-start : Standing (G .Started) → NextStart
+  next-start a = next-start-in (suc (G .latest)) a
 
   -- the tasks' offsets after the next job of task i has started: a started job's own PV moves its offset to the record after it
   abbrev pub moved : G .Started → List ℕ → ℕ → List ℕ

@@ -1,5 +1,6 @@
 -- The operations on images: document 01's checking, deriving and rebuilding, for any bytes and any lent output. Assumes nothing.
-use mathlib.Core.List.{List, [], _∷_, _++_}
+use mathlib.Core.Path.{_≡_}
+use mathlib.Core.List.{List, _∷_, _++_}
 use Prim.Native.Nat.{ℕ}
 use lib.Dec.{leb}
 use lib.ListN.{length, drop}
@@ -92,3 +93,12 @@ rebuild bytes old = make-answer (rebuilt-image (length old) bytes)
 
 unfoldable pub rebuild-output : List ℕ → List ℕ → List ℕ
 rebuild-output bytes old = output-after (rebuilt-image (length old) bytes) old
+
+-- what deriving answers and leaves in the output, and what rebuilding does
+pub record Derives (bytes old : List ℕ) (answered : MakeAnswer) (left : List ℕ) : Type 0 where
+  pub answer : answered ≡ derive bytes old
+  pub output : left ≡ derive-output bytes old
+
+pub record Rebuilds (bytes old : List ℕ) (answered : MakeAnswer) (left : List ℕ) : Type 0 where
+  pub answer : answered ≡ rebuild bytes old
+  pub output : left ≡ rebuild-output bytes old

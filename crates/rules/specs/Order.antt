@@ -2,9 +2,8 @@
 -- its own that speaks of positions in the lists, and the conditions of 18 and 19. Assumes nothing.
 use mathlib.Core.Path.{_≡_}
 use mathlib.Core.Logic.{_⊎_}
-use mathlib.Core.Bool.{Bool, true, false}
 use mathlib.Core.List.{List, [], _∷_, _++_, map}
-use mathlib.Core.Option.{Option, none, some}
+use mathlib.Core.Option.{none, some}
 use Prim.Native.Nat.{ℕ, zero, suc, _+_, _-_, _≤_, _<_}
 use lib.ListN.{length, getD, take}
 use Rattle.rules.specs.declared.Task.{Task}
@@ -12,12 +11,12 @@ use Rattle.rules.specs.declared.Entry.{Entry}
 use Rattle.rules.specs.declared.Idle.{Idle}
 use Rattle.rules.specs.declared.Inversion.{Inversion}
 use Rattle.rules.specs.declared.Refusal.{Refusal}
-use Rattle.rules.specs.Refusals.{Judged, gives, refuses, refusal, Test, test, in-turn, First}
+use Rattle.rules.specs.Refusals.{refusal, Test, test, in-turn, First}
 use Rattle.rules.specs.Tasks.{task, release, due, jobs, hyperperiod, set-tests}
 use Rattle.rules.specs.Timetable.{entry-at, job-at, end-at}
-use Rattle.rules.specs.Setting.{Setting, Tables, instant}
-use Rattle.rules.specs.Priority.{slot, start-job, all-started, setting}
-use Rattle.rules.specs.Decision.{Choice, idle-for, start-task, wait-till, decide, delays, first-idle, later-idles, replay}
+use Rattle.rules.specs.Setting.{Tables}
+use Rattle.rules.specs.Decision.{idle-for, start-task}
+use Rattle.rules.specs.DecisionRule.{Replaying, cycle-start, after-idling, after-starting, TooLate, DecidesNext, Replays}
 use Rattle.rules.specs.Judging.{tables}
 
 -- entries in turn, 11 to 15 in that order, then 16
@@ -87,24 +86,14 @@ record-tests ts h X =
     in-turn (idle-tests (length ts) h (X .idles)) 0 (length (X .idles))
     ++ in-turn (inversion-tests ts h (length ts + length (X .idles)) (X .inversions)) 0 (length (X .inversions))
 
--- a start at t of the task's next job would end after it is due
-abbrev pub TooLate : List Task → List ℕ → ℕ → ℕ → Type 0
-TooLate ts x i t = due (task ts i) (slot x i) < t + task ts i .time
-
 -- 18: replay comes, after so many starts, to a job that is too late
-module _ (ts : List Task) (p : List Inversion) where
-  abbrev pub decided : List ℕ → ℕ → List Idle → Choice
-  decided x f idles =
-      decide (setting ts) x (instant (setting ts) x f) (first-idle idles (instant (setting ts) x f)) (delays (setting ts) p x)
-
-  pub data LateAfter : List ℕ → ℕ → List Idle → ℕ → Type 0 where
-    late-now : {x : List ℕ} {f i : ℕ} {idles : List Idle} → all-started (hyperperiod ts) ts x ≡ false → decided x f idles ≡ start-task i →
-        TooLate ts x i (instant (setting ts) x f) → LateAfter x f idles 0
-    after-idle : {x : List ℕ} {f l m : ℕ} {idles : List Idle} → all-started (hyperperiod ts) ts x ≡ false → decided x f idles ≡ idle-for l →
-        LateAfter x (instant (setting ts) x f + l) (later-idles idles) m → LateAfter x f idles m
-    after-start : {x : List ℕ} {f i m : ℕ} {idles : List Idle} → all-started (hyperperiod ts) ts x ≡ false → decided x f idles ≡ start-task i →
-        (TooLate ts x i (instant (setting ts) x f) → ⊥) → LateAfter (start-job x i) (instant (setting ts) x f + task ts i .time) idles m →
-        LateAfter x f idles (suc m)
+module _ (ts : List Task) (h : ℕ) (p : List Inversion) where
+  pub data LateAfter : Replaying → ℕ → Type 0 where
+    late-now : {a : Replaying} {t i : ℕ} → DecidesNext ts h p a t (start-task i) → TooLate ts (a .next) i t → LateAfter a 0
+    after-idle : {a : Replaying} {t m : ℕ} {r : Idle} {behind : List Idle} → a .unused ≡ r ∷ behind → DecidesNext ts h p a t (idle-for (r .length)) →
+        LateAfter (after-idling a t r behind) m → LateAfter a m
+    after-start : {a : Replaying} {t i m : ℕ} → DecidesNext ts h p a t (start-task i) → (TooLate ts (a .next) i t → ⊥) →
+        LateAfter (after-starting ts a t i) m → LateAfter a (suc m)
 
 -- 19: the first record at which two tables differ
 pub data Item : Type 0 where
@@ -121,7 +110,7 @@ pub record FirstDifference (X Y : Tables) (m : ℕ) : Type 0 where
 -- what refuses tables: the set, the records in turn, then a late job, then a difference
 pub data RefusesTables (ts : List Task) (X : Tables) : Refusal → Type 1 where
   by-a-test : {r : Refusal} → First (set-tests ts ++ record-tests ts (hyperperiod ts) X) (some r) → RefusesTables ts X r
-  late-job : {m : ℕ} → First (set-tests ts ++ record-tests ts (hyperperiod ts) X) none → LateAfter ts (X .inversions) [] 0 (X .idles) m →
+  late-job : {m : ℕ} → First (set-tests ts ++ record-tests ts (hyperperiod ts) X) none → LateAfter ts (hyperperiod ts) (X .inversions) (cycle-start X) m →
       RefusesTables ts X (refusal 18 m)
-  difference : {m : ℕ} {τ : List Entry} → First (set-tests ts ++ record-tests ts (hyperperiod ts) X) none → replay (setting ts) [] X ≡ gives τ →
+  difference : {m : ℕ} {τ : List Entry} → First (set-tests ts ++ record-tests ts (hyperperiod ts) X) none → Replays ts (hyperperiod ts) (X .inversions) (cycle-start X) τ →
       FirstDifference X (tables ts τ) m → RefusesTables ts X (refusal 19 (suc (length ts + m)))

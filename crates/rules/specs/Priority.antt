@@ -9,7 +9,7 @@ use Rattle.fields.specs.Body.{head₀, tail₀}
 use Rattle.rules.specs.declared.Task.{Task}
 use Rattle.rules.specs.Tasks.{both, task, release, due, jobs, hyperperiod}
 use Rattle.rules.specs.Timetable.{pick}
-use Rattle.rules.specs.Setting.{Setting, Act, run, wait, lowest}
+use Rattle.rules.specs.Setting.{Setting, Act, run, lowest}
 
 -- the number in slot i
 abbrev pub slot : List ℕ → ℕ → ℕ

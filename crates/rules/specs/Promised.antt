@@ -1,16 +1,16 @@
--- What the promises on images are stated with: tables that are exactly a timetable's irregularities, the two kinds of image that are accepted, and what
--- refuses an image. Assumes nothing.
+-- What the promises on images are stated with: tables that are exactly a timetable's irregularities, the two kinds of image that are accepted, what
+-- refuses an image, and what refuses to make one of the other. Assumes nothing.
 use mathlib.Core.Path.{_≡_}
 use mathlib.Core.Logic.{_↔_}
-use mathlib.Core.List.{List, [], _∷_, _++_, List·Memᴰ}
-use mathlib.Core.Option.{Option, none, some}
+use mathlib.Core.List.{List, _∷_, _++_, List·Memᴰ}
+use mathlib.Core.Option.{some}
 use Prim.Native.Nat.{ℕ, _<_}
 use lib.ListN.{length}
 use Rattle.rules.specs.declared.Task.{Task}
 use Rattle.rules.specs.declared.Entry.{Entry}
 use Rattle.rules.specs.declared.Inversion.{Inversion}
 use Rattle.rules.specs.declared.Refusal.{Refusal}
-use Rattle.rules.specs.Refusals.{Judged, gives, First}
+use Rattle.rules.specs.Refusals.{gives, refusal, First}
 use Rattle.rules.specs.Tasks.{GoodSet, hyperperiod, set-tests}
 use Rattle.rules.specs.Timetable.{ValidTimetable}
 use Rattle.rules.specs.Setting.{Tables}
@@ -52,3 +52,20 @@ pub data RefusesTimetableImage (bytes : List ℕ) : Refusal → Type 1 where
 pub data RefusesTableImage (bytes : List ℕ) : Refusal → Type 1 where
   by-framing : {r : Refusal} → RefusesFraming 2 start-place bytes r → RefusesTableImage bytes r
   by-its-tables : {r : Refusal} {i : Tabled} → read-tables bytes ≡ gives i → RefusesTables (i .tasks) (i .tables) r → RefusesTableImage bytes r
+
+-- the images of both kinds of one timetable: its own, and that of its tables
+pub record BothImages (timetable-bytes table-bytes : List ℕ) : Type 0 where
+  pub tasks : List Task
+  pub entries : List Entry
+  pub timetable : TimetableImage timetable-bytes tasks entries
+  pub tables : TableImage table-bytes tasks entries
+
+-- what refuses deriving into so much room: what refuses the image; or, last, 20, a result that is longer
+pub data RefusesDeriving (bytes : List ℕ) (room : ℕ) : Refusal → Type 1 where
+  by-the-image : {r : Refusal} → RefusesTimetableImage bytes r → RefusesDeriving bytes room r
+  too-long : {result : List ℕ} → BothImages bytes result → room < length result → RefusesDeriving bytes room (refusal 20 0)
+
+-- what refuses rebuilding into so much room, likewise
+pub data RefusesRebuilding (bytes : List ℕ) (room : ℕ) : Refusal → Type 1 where
+  by-the-image : {r : Refusal} → RefusesTableImage bytes r → RefusesRebuilding bytes room r
+  too-long : {result : List ℕ} → BothImages result bytes → room < length result → RefusesRebuilding bytes room (refusal 20 0)

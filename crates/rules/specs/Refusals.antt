@@ -43,6 +43,11 @@ abbrev pub then : {A B : Type 0} → Judged A → (A → Judged B) → Judged B
 then (gives a) next = next a
 then (refuses r) next = refuses r
 
+-- the refusal that judging came to, if it did
+abbrev pub refusal-in : {A : Type 0} → Judged A → Option Refusal
+refusal-in (gives a) = none
+refusal-in (refuses r) = some r
+
 -- a test of the document: the condition under which it refuses, and with what
 pub record Test : Type 1 where
   pub refuses-when : Type 0

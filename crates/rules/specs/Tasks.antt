@@ -1,7 +1,7 @@
 -- Task sets: document 01, "Task sets". A good set as the list of its rules, and the first fault of a set. Assumes nothing.
 use mathlib.Core.Bool.{Bool, true, false}
 use mathlib.Core.List.{List, [], _∷_, _++_}
-use mathlib.Core.Option.{Option, none, some}
+use mathlib.Core.Option.{Option, none}
 use Prim.Native.Nat.{ℕ, zero, suc, _+_, _*_, _/_, _%_, _≤_, _<_, _∣_}
 use lib.Dec.{leb}
 use lib.ListN.{length, getD, take}
@@ -21,6 +21,10 @@ pub record Limits : Type 0 where
 
 abbrev pub limits : Limits
 limits = record { tasks = 16; ticks = 65535; jobs = 4096 }
+
+-- the largest number of 32 bits
+abbrev pub largest-number : ℕ
+largest-number = 4294967295
 
 -- a task that keeps every rule, for places past the end of a set
 abbrev pub no-task : Task

@@ -2,7 +2,7 @@
 use mathlib.Core.Path.{_≡_}
 use mathlib.Core.Bool.{Bool, true, false}
 use mathlib.Core.List.{List, [], _∷_}
-use Prim.Native.Nat.{ℕ, zero, suc, _+_, _≤_, _<_}
+use Prim.Native.Nat.{ℕ, suc, _+_, _≤_, _<_}
 use lib.Dec.{eqb}
 use lib.ListN.{length, take, getD}
 use Rattle.rules.specs.declared.Task.{Task}
@@ -33,7 +33,7 @@ end-at ts τ j = entry-at τ j .start + task ts (entry-at τ j .task) .time
 
 -- a valid timetable of a set with hyperperiod h
 pub record ValidTimetable (ts : List Task) (h : ℕ) (τ : List Entry) : Type 0 where
-  pub task-numbers : (j : ℕ) → j < length τ → entry-at τ j .task < length ts
+  pub tasks-below-n : (j : ℕ) → j < length τ → entry-at τ j .task < length ts
   pub not-too-many : (j : ℕ) → j < length τ → job-at τ j < jobs h (task ts (entry-at τ j .task))
   pub released : (j : ℕ) → j < length τ → release (task ts (entry-at τ j .task)) (job-at τ j) ≤ entry-at τ j .start
   pub no-overlap : (j : ℕ) → suc j < length τ → end-at ts τ j ≤ entry-at τ (suc j) .start

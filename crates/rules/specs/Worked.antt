@@ -1,5 +1,5 @@
--- The worked cases: document 01, "A set to work by hand". P1 to P12 in a single table. Assumes nothing.
-use mathlib.Core.List.{List, [], _∷_, _++_, map}
+-- The worked cases: document 01, "A set to work by hand", and document 000's figure 1. P1 to P12 and the figure in a single table. Assumes nothing.
+use mathlib.Core.List.{List, [], _∷_}
 use Prim.Native.Nat.{ℕ}
 use lib.ListN.{length}
 use Rattle.rules.specs.declared.Layout.{Layout}
@@ -7,6 +7,7 @@ use Rattle.rules.specs.declared.Task.{Task}
 use Rattle.rules.specs.declared.Entry.{Entry}
 use Rattle.rules.specs.declared.Idle.{Idle}
 use Rattle.rules.specs.declared.Inversion.{Inversion}
+use Rattle.rules.specs.declared.Refusal.{Refusal}
 use Rattle.rules.specs.declared.Figures.{Figures}
 use Rattle.rules.specs.Refusals.{Judged, gives, refuses, Told, tells, make-tells}
 use Rattle.rules.specs.Tasks.{figures}
@@ -35,6 +36,10 @@ tables-with idles inversions = record { idles = idles; inversions = inversions }
 abbrev pub hand : List Task
 hand = TK 0 1 5 5 ∷ TK 0 2 10 10 ∷ TK 0 6 20 20 ∷ []
 
+-- one task of one tick
+abbrev pub one-task : List Task
+one-task = TK 0 1 1 1 ∷ []
+
 -- P1's starts, and P2's with job 1 of task 0 at an instant
 abbrev pub P1 : List Entry
 P1 = SL 0 0 ∷ SL 1 1 ∷ SL 2 3 ∷ SL 0 9 ∷ SL 0 10 ∷ SL 1 11 ∷ SL 0 15 ∷ []
@@ -62,66 +67,88 @@ P2-bytes =
 abbrev pub P2-idles : List Idle → Tables
 P2-idles idles = tables-with idles (PV 1 0 7 ∷ PV 2 0 1 ∷ [])
 
+-- the set and the starts of document 000's figure 1, which the paper says differ from plain priority in an idle interval [9, 10) and a job of
+-- the second task before the first at 30
+abbrev pub figure-1 : List Task
+figure-1 = TK 0 3 10 10 ∷ TK 0 6 12 12 ∷ TK 0 8 60 60 ∷ []
+
+abbrev pub figure-1-starts : List Entry
+figure-1-starts = SL 0 0 ∷ SL 1 3 ∷ SL 0 10 ∷ SL 1 13 ∷ SL 2 19 ∷ SL 0 27 ∷ SL 1 30 ∷ SL 0 36 ∷ SL 1 39 ∷ SL 0 45 ∷ SL 1 48 ∷ SL 0 54 ∷ []
+
+abbrev pub figure-1-tables : Tables
+figure-1-tables = tables-with (ID 9 1 ∷ []) (PV 1 2 6 ∷ [])
+
 -- what is asked of an image: to derive its tables, or to rebuild its timetable
 pub data Asked : Type 0 where
-  derive : List ℕ → Asked
-  rebuild : List ℕ → Asked
+  to-derive : List ℕ → Asked
+  to-rebuild : List ℕ → Asked
 
--- a row: what is asked; what the answer tells; the result's bytes; the hyperperiod and the jobs of the image's set
-pub record Row : Type 0 where
+-- a worked case: what is asked; what the answer tells; the result's bytes; the figures of the image's set
+pub record Case : Type 0 where
   pub asked : Asked
   pub answer : Told
   pub result : List ℕ
   pub set : Figures
 
-abbrev row : Asked → Told → List ℕ → ℕ → ℕ → Row
-row asked answer result h jobs = record { asked = asked; answer = answer; result = result; set = record { hyperperiod = h; jobs = jobs } }
+-- a case with a result, and one that is refused
+abbrev makes : Asked → List ℕ → Figures → Case
+makes asked result set = record { asked = asked; answer = tells (length result ∷ []); result = result; set = set }
 
--- a row with a result, and one that is refused with a number and a place
-abbrev makes : Asked → List ℕ → ℕ → ℕ → Row
-makes asked result h jobs = row asked (tells (length result ∷ [])) result h jobs
+abbrev refuses-with : Asked → Refusal → Figures → Case
+refuses-with asked r set = record { asked = asked; answer = record { number = r .number; place = r .place; values = [] }; result = []; set = set }
 
-abbrev refuses-with : Asked → ℕ → ℕ → ℕ → ℕ → Row
-refuses-with asked number place h jobs = row asked (record { number = number; place = place; values = [] }) [] h jobs
+-- the figures of the set to work by hand, and of no set
+abbrev hand-figures : Figures
+hand-figures = record { hyperperiod = 20; jobs = 7 }
 
-abbrev periods : List Task → List ℕ
-periods ts = table-image ts (tables-with [] [])
+abbrev no-figures : Figures
+no-figures = record { hyperperiod = 0; jobs = 0 }
 
-abbrev pub worked : List Row
+abbrev without-records : List Task → List ℕ
+without-records ts = table-image ts (tables-with [] [])
+
+abbrev pub worked : List Case
 worked =
     -- P1: no record
-    makes (derive (timetable-image hand P1)) (table-image hand (tables-with [] [])) 20 7
-    ∷ makes (rebuild (table-image hand (tables-with [] []))) (timetable-image hand P1) 20 7
+    makes (to-derive (timetable-image hand P1)) (without-records hand) hand-figures
+    ∷ makes (to-rebuild (without-records hand)) (timetable-image hand P1) hand-figures
     -- P2: its 91 bytes
-    ∷ makes (derive (timetable-image hand P2)) P2-bytes 20 7
-    ∷ makes (rebuild P2-bytes) (timetable-image hand P2) 20 7
+    ∷ makes (to-derive (timetable-image hand P2)) P2-bytes hand-figures
+    ∷ makes (to-rebuild P2-bytes) (timetable-image hand P2) hand-figures
     -- P3, P4: job 1 of task 0 at 10 and at 8
-    ∷ refuses-with (derive (timetable-image hand (P2-with 10))) 15 7 20 7
-    ∷ refuses-with (derive (timetable-image hand (P2-with 8))) 14 7 20 7
+    ∷ refuses-with (to-derive (timetable-image hand (P2-with 10))) (record { number = 15; place = 7 }) hand-figures
+    ∷ refuses-with (to-derive (timetable-image hand (P2-with 8))) (record { number = 14; place = 7 }) hand-figures
     -- P5: idle (10,5); P6: idle split into (10,1) and (11,1)
-    ∷ refuses-with (rebuild (table-image hand (P2-idles (ID 10 5 ∷ [])))) 18 4 20 7
-    ∷ refuses-with (rebuild (table-image hand (P2-idles (ID 10 1 ∷ ID 11 1 ∷ [])))) 17 5 20 7
+    ∷ refuses-with (to-rebuild (table-image hand (P2-idles (ID 10 5 ∷ [])))) (record { number = 18; place = 4 }) hand-figures
+    ∷ refuses-with (to-rebuild (table-image hand (P2-idles (ID 10 1 ∷ ID 11 1 ∷ [])))) (record { number = 17; place = 5 }) hand-figures
     -- P7: P1's tables with PV (2,0,3); P8: with ID (16,2)
-    ∷ refuses-with (rebuild (table-image hand (tables-with [] (PV 2 0 3 ∷ [])))) 19 4 20 7
-    ∷ refuses-with (rebuild (table-image hand (tables-with (ID 16 2 ∷ []) []))) 19 4 20 7
+    ∷ refuses-with (to-rebuild (table-image hand (tables-with [] (PV 2 0 3 ∷ [])))) (record { number = 19; place = 4 }) hand-figures
+    ∷ refuses-with (to-rebuild (table-image hand (tables-with (ID 16 2 ∷ []) []))) (record { number = 19; place = 4 }) hand-figures
     -- P9: one task and one entry
-    ∷ makes (derive (timetable-image (TK 0 1 1 1 ∷ []) (SL 0 0 ∷ []))) (table-image (TK 0 1 1 1 ∷ []) (tables-with [] [])) 1 1
-    ∷ makes (rebuild (table-image (TK 0 1 1 1 ∷ []) (tables-with [] []))) (timetable-image (TK 0 1 1 1 ∷ []) (SL 0 0 ∷ [])) 1 1
+    ∷ makes (to-derive (timetable-image one-task (SL 0 0 ∷ []))) (without-records one-task) (record { hyperperiod = 1; jobs = 1 })
+    ∷ makes (to-rebuild (without-records one-task)) (timetable-image one-task (SL 0 0 ∷ [])) (record { hyperperiod = 1; jobs = 1 })
     -- P10: periods 3 and 65,535; 2 and 65,535
-    ∷ refuses-with (rebuild (periods (TK 0 1 3 3 ∷ TK 0 1 65535 65535 ∷ []))) 9 0 65535 21846
-    ∷ refuses-with (rebuild (periods (TK 0 1 2 2 ∷ TK 0 1 65535 65535 ∷ []))) 8 0 131070 65537
+    ∷ refuses-with (to-rebuild (without-records (TK 0 1 3 3 ∷ TK 0 1 65535 65535 ∷ []))) (record { number = 9; place = 0 })
+    (record { hyperperiod = 65535; jobs = 21846 })
+    ∷ refuses-with (to-rebuild (without-records (TK 0 1 2 2 ∷ TK 0 1 65535 65535 ∷ []))) (record { number = 8; place = 0 })
+    (record { hyperperiod = 131070; jobs = 65537 })
     -- P11: periods 16 and 65,520, which pass as a set: what is missing is an entry; a third task of 65,520
-    ∷ refuses-with (derive (timetable-image (TK 0 1 16 16 ∷ TK 0 1 65520 65520 ∷ []) [])) 16 0 65520 4096
-    ∷ refuses-with (derive (timetable-image (TK 0 1 16 16 ∷ TK 0 1 65520 65520 ∷ TK 0 1 65520 65520 ∷ []) [])) 9 0 65520 4097
+    ∷ refuses-with (to-derive (timetable-image (TK 0 1 16 16 ∷ TK 0 1 65520 65520 ∷ []) [])) (record { number = 16; place = 0 })
+    (record { hyperperiod = 65520; jobs = 4096 })
+    ∷ refuses-with (to-derive (timetable-image (TK 0 1 16 16 ∷ TK 0 1 65520 65520 ∷ TK 0 1 65520 65520 ∷ []) [])) (record { number = 9; place = 0 })
+    (record { hyperperiod = 65520; jobs = 4097 })
     -- P12: no bytes
-    ∷ refuses-with (derive []) 1 0 0 0
-    ∷ refuses-with (rebuild []) 1 0 0 0
+    ∷ refuses-with (to-derive []) (record { number = 1; place = 0 }) no-figures
+    ∷ refuses-with (to-rebuild []) (record { number = 1; place = 0 }) no-figures
+    -- document 000's figure 1
+    ∷ makes (to-derive (timetable-image figure-1 figure-1-starts)) (table-image figure-1 figure-1-tables) (record { hyperperiod = 60; jobs = 12 })
+    ∷ makes (to-rebuild (table-image figure-1 figure-1-tables)) (timetable-image figure-1 figure-1-starts) (record { hyperperiod = 60; jobs = 12 })
     ∷ []
 
 -- what the rule book answers, with room enough for any result
 abbrev made : Asked → Judged (List ℕ)
-made (derive bytes) = derived-image 65536 bytes
-made (rebuild bytes) = rebuilt-image 65536 bytes
+made (to-derive bytes) = derived-image 65536 bytes
+made (to-rebuild bytes) = rebuilt-image 65536 bytes
 
 abbrev bytes-of : Judged (List ℕ) → List ℕ
 bytes-of (gives bytes) = bytes
@@ -129,12 +156,17 @@ bytes-of (refuses r) = []
 
 abbrev figures-in : List ℕ → Judged Layout → Figures
 figures-in bytes (gives l) = figures (tasks-in l bytes)
-figures-in bytes (refuses r) = record { hyperperiod = 0; jobs = 0 }
+figures-in bytes (refuses r) = no-figures
 
 abbrev figures-of : Asked → Figures
-figures-of (derive bytes) = figures-in bytes (frame 1 bytes)
-figures-of (rebuild bytes) = figures-in bytes (frame 2 bytes)
+figures-of (to-derive bytes) = figures-in bytes (frame 1 bytes)
+figures-of (to-rebuild bytes) = figures-in bytes (frame 2 bytes)
 
--- the row as the rule book has it
-abbrev pub worked-out : Row → Row
-worked-out r = record { asked = r .asked; answer = make-tells (make-answer (made (r .asked))); result = bytes-of (made (r .asked)); set = figures-of (r .asked) }
+-- the case as the rule book has it
+abbrev pub worked-out : Case → Case
+worked-out c = record {
+  asked = c .asked;
+  answer = make-tells (make-answer (made (c .asked)));
+  result = bytes-of (made (c .asked));
+  set = figures-of (c .asked);
+}

@@ -1,5 +1,8 @@
 // The types of the project: what document 01 speaks of, as the crates above pass it on. The rule book over them is in specs/.
 
+// The largest number of 32 bits.
+pub const LARGEST: u32 = 4294967295;
+
 // A task: offset O, declared time C, period T, relative deadline D.
 #[repr(C)]
 pub struct Task {

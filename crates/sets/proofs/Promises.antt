@@ -3,7 +3,7 @@
 use mathlib.Core.Path.{_≡_, refl, sym, _∙_, ap₂}
 use mathlib.Core.Logic.{_↔_}
 use mathlib.Core.Option.{none, some}
-use Prim.Native.Nat.{ℕ, _≤_}
+use Prim.Native.Nat.{ℕ}
 use borrow.Author.Tests.{leb-true, le-leb}
 use lib.Dec.{leb}
 use Rattle.rules.specs.declared.TaskSet.{TaskSet}
@@ -12,22 +12,16 @@ use Rattle.rules.specs.declared.Refusal.{Refusal}
 use Rattle.rules.specs.declared.SetAnswer.{SetAnswer}
 use Rattle.rules.specs.declared.SetAnswer.the-variants.{Good, Refused}
 use Rattle.rules.specs.Refusals.{First, unless}
-use Rattle.rules.specs.Tasks.{limits, all-jobs, GoodSet, hyperperiod, few-enough, set-fault, figures, memory-fault, memory-tests, judge-set}
+use Rattle.rules.specs.Tasks.{limits, all-jobs, hyperperiod, few-enough, set-fault, figures, memory-fault, memory-tests, judge-set}
 use Rattle.rules.proofs.Cases.{by-option, clash, both-true, both-in, first-none, unless-none}
 use Rattle.rules.proofs.FirstTests.{one-first}
 use Rattle.rules.proofs.GoodSets.{good-set, set-good, memory-order}
+use Rattle.sets.specs.Sets.{GoodInMemory}
 use Rattle.sets.proofs.Slots.{first-tasks}
 
 -- the contract leaves one answer
 pub one-answer : (s : TaskSet) (a b : SetAnswer) → a ≡ judge-set s → b ≡ judge-set s → a ≡ b
 one-answer s a b p q = p ∙ sym q
-
--- 1 to 16 tasks, in the first slots, that are a good set with these figures
-pub record GoodInMemory (s : TaskSet) (f : Figures) : Type 0 where
-  pub some-tasks : 1 ≤ s .n
-  pub few-tasks : s .n ≤ limits .tasks
-  pub good : GoodSet (first-tasks s) (f .hyperperiod)
-  pub counted : f .jobs ≡ all-jobs (f .hyperperiod) (first-tasks s)
 
 module _ (s : TaskSet) where
   -- with no fault the answer is the figures

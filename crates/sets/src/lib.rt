@@ -45,7 +45,7 @@ pub fn jobs(h: u32, t: Task) -> u32
 }
 
 // A task's own rule.
-pub fn keeps_its_rule(t: Task) -> bool
+fn keeps_its_rule(t: Task) -> bool
     ensures { λ r. ⌜ r ≡ book.keeps-its-rule t ⌝ }
 {
     if t.time < 1 {
@@ -59,7 +59,8 @@ pub fn keeps_its_rule(t: Task) -> bool
 
 // What is wrong with the first n tasks, one after the other, each by 6 and then by 7; number 0 where nothing is.
 fn tasks_fault(n: usize, numbers: &[u32], at: usize) -> Refusal
-    requires { ⌜ (n ≤ 16) × (at + 64 ≤ length (now numbers)) ⌝ }
+    requires few { ⌜ n ≤ 16 ⌝ }
+    requires inside { ⌜ at + 64 ≤ length (now numbers) ⌝ }
     ensures { λ r. ⌜ FirstFault (book.tasks-fault 1 0 (tasks-from n (now (numbers .entry)) at)) r ⌝ }
 {
     let mut i: usize = 0;
@@ -92,7 +93,8 @@ fn tasks_fault(n: usize, numbers: &[u32], at: usize) -> Refusal
 // The greatest common divisor of two numbers, by remainders.
 fn common_divisor(t: u32, h: u32) -> u32
     requires { ⌜ 1 ≤ t ⌝ }
-    ensures { λ r. ⌜ (1 ≤ r) × (r ≡ book.gcd (suc h) t h) ⌝ }
+    ensures positive { λ r. ⌜ 1 ≤ r ⌝ }
+    ensures greatest { λ r. ⌜ r ≡ book.gcd (suc h) t h ⌝ }
 {
     let mut a = t;
     let mut b = h;
@@ -106,7 +108,9 @@ fn common_divisor(t: u32, h: u32) -> u32
 
 // The least common multiple of two numbers, or one more than the limit where it is above it.
 fn common_multiple(t: u32, h: u32) -> u32
-    requires { ⌜ (1 ≤ t) × (1 ≤ h) × (h ≤ 65535) ⌝ }
+    requires period { ⌜ 1 ≤ t ⌝ }
+    requires ticks { ⌜ 1 ≤ h ⌝ }
+    requires short { ⌜ h ≤ 65535 ⌝ }
     ensures { λ r. ⌜ r ≡ capped (book.lcm t h) ⌝ }
 {
     if 65535 < t {
@@ -126,7 +130,10 @@ fn common_multiple(t: u32, h: u32) -> u32
 // The hyperperiod of the first n tasks, or one more than the limit where it is above it. Periods never fall, so tasks of one period stand together: it is
 // looked at once.
 fn hyperperiod(n: usize, numbers: &[u32], at: usize) -> u32
-    requires { ⌜ (1 ≤ n) × (n ≤ 16) × (at + 64 ≤ length (now numbers)) × (book.tasks-fault 1 0 (tasks-from n (now numbers) at) ≡ none) ⌝ }
+    requires some { ⌜ 1 ≤ n ⌝ }
+    requires few { ⌜ n ≤ 16 ⌝ }
+    requires inside { ⌜ at + 64 ≤ length (now numbers) ⌝ }
+    requires faultless { ⌜ book.tasks-fault 1 0 (tasks-from n (now numbers) at) ≡ none ⌝ }
     ensures { λ r. ⌜ r ≡ capped (book.hyperperiod (tasks-from n (now (numbers .entry)) at)) ⌝ }
 {
     let mut i = n - 1;
@@ -151,7 +158,9 @@ fn hyperperiod(n: usize, numbers: &[u32], at: usize) -> u32
 
 // The jobs of the first n tasks together, in a cycle of h ticks; divided once for tasks of one period that stand together.
 fn all_jobs(h: u32, n: usize, numbers: &[u32], at: usize) -> u32
-    requires { ⌜ (n ≤ 16) × (h ≤ 65535) × (at + 64 ≤ length (now numbers)) ⌝ }
+    requires few { ⌜ n ≤ 16 ⌝ }
+    requires short { ⌜ h ≤ 65535 ⌝ }
+    requires inside { ⌜ at + 64 ≤ length (now numbers) ⌝ }
     ensures { λ r. ⌜ r ≡ book.all-jobs h (tasks-from n (now (numbers .entry)) at) ⌝ }
 {
     let mut i = n;

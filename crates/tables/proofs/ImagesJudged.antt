@@ -18,7 +18,7 @@ use Rattle.rules.specs.declared.Offsets.{Offsets as OffsetsOf}
 use Rattle.rules.specs.declared.Refusal.{Refusal}
 use Rattle.rules.specs.declared.SetAnswer.the-variants as set-case
 use Rattle.rules.specs.declared.CheckAnswer.the-variants as check-case
-use Rattle.rules.specs.Refusals.{Judged, gives, refuses, refusal}
+use Rattle.rules.specs.Refusals.{Judged, gives, refuses, refusal, refusal-in}
 use Rattle.rules.specs.Tasks.{limits, jobs, all-jobs, hyperperiod, GoodSet, few-enough, set-fault, judge-set}
 use Rattle.rules.specs.Setting.{Tables}
 use Rattle.rules.specs.Judging.{records-fault, judge-tables}
@@ -52,7 +52,7 @@ use Rattle.records.proofs.RecordsRead.{idles-length, inversions-length, tables-
 use Rattle.records.proofs.OffsetsTold.{tasks-below}
 use Rattle.replay.specs.Releases.{tasks-of}
 use Rattle.tables.specs.declared.Tables.{Tables as Judgement}
-use Rattle.tables.specs.Replayed.{refusal-in, RefusalTold, CanCompare}
+use Rattle.tables.specs.Replayed.{RefusalTold, CanCompare}
 use Rattle.tables.specs.Judged.{SetStands, refused-with, Good, JudgedAs}
 
 -- what refuses an image has a number

@@ -11,7 +11,7 @@ use Rattle.rules.specs.declared.Task.{Task}
 use Rattle.rules.specs.declared.TaskSet.{TaskSet}
 use Rattle.rules.specs.declared.Entry.{Entry}
 use Rattle.rules.specs.declared.Offsets.{Offsets as OffsetsOf}
-use Rattle.rules.specs.Refusals.{Judged, gives, refuses, refusal, then}
+use Rattle.rules.specs.Refusals.{Judged, gives, refuses, refusal, then, refusal-in}
 use Rattle.rules.specs.Tasks.{limits}
 use Rattle.rules.specs.Setting.{Tables}
 use Rattle.rules.specs.Judging.{judge-tables}
@@ -29,7 +29,7 @@ use Rattle.decision.specs.declared.NextStart.the-variants.{Starts, Stuck}
 use Rattle.replay.specs.Releases.{tasks-of}
 use Rattle.replay.specs.Runs.{Ends, cycle-of}
 use Rattle.replay.proofs.Cycles.{CycleDone, cycle-stand, cycle-stuck, cycle-done}
-use Rattle.tables.specs.Replayed.{refusal-in, RefusalTold, behind-idles, Ended, unused-at, CanCompare}
+use Rattle.tables.specs.Replayed.{RefusalTold, behind-idles, Ended, unused-at, CanCompare}
 
 -- how many records of one size lie before an offset
 quotient : (offset from records length₀ : ℕ) → 0 < length₀ → offset ≡ from + records * length₀ → (offset - from) / length₀ ≡ records

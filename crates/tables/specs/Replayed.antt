@@ -1,26 +1,20 @@
 -- Replay and comparison in one pass: what it is given, and which records had no effect. Assumes nothing.
 use mathlib.Core.Path.{_≡_}
 use mathlib.Core.List.{List}
-use mathlib.Core.Option.{Option, none, some}
 use Prim.Native.Nat.{ℕ, _+_, _*_, _-_, _/_, _≤_, _<_}
 use lib.Dec.{ltb}
 use lib.ListN.{length}
 use Rattle.rules.specs.declared.TaskSet.{TaskSet}
 use Rattle.rules.specs.declared.Offsets.{Offsets as OffsetsOf}
 use Rattle.rules.specs.declared.Refusal.{Refusal}
-use Rattle.rules.specs.Refusals.{Judged, gives, refuses, refusal}
+use Rattle.rules.specs.Refusals.{Judged, refusal, refusal-in}
 use Rattle.rules.specs.Timetable.{pick}
 use Rattle.rules.specs.Marks.{ID, PV, size}
 use Rattle.rules.specs.Offsets.{last-offset}
 use Rattle.sets.specs.Sets.{FirstFault}
 use Rattle.replay.specs.Runs.{CanReplay}
 
--- the refusal that judging came to, if it did
-abbrev pub refusal-in : {A : Type 0} → Judged A → Option Refusal
-refusal-in (gives a) = none
-refusal-in (refuses r) = some r
-
--- that refusal; number 0, at place 0, where there is none
+-- the refusal that judging came to; number 0, at place 0, where there is none
 pub record RefusalTold {A : Type 0} (z : Judged A) (r : Refusal) : Type 0 where
   pub first : FirstFault (refusal-in z) r
   pub no-place : r .number ≡ 0 → r .place ≡ 0

@@ -1,4 +1,5 @@
 // Table images: framing, the set, records in turn, then replay and comparison in one pass through a cycle; and plain checking.
+use decision::LAST_OFFSET;
 use decision::NextStart;
 use framing::FrameAnswer;
 use images::ID;
@@ -19,9 +20,6 @@ ghost use Rattle.replay.specs.Releases.{tasks-of};
 ghost use Rattle.tables.specs.Replayed.{RefusalTold, Ended, unused-at, CanCompare};
 ghost use Rattle.tables.specs.Judged.{SetStands, refused-with, JudgedAs};
 
-// No offset is this one: no record is wasted.
-const NONE: u32 = 4294967295;
-
 // 19 at the first ID record that is left, else at the first PV record that had no effect. Number 0 where there is none.
 fn unused(n: usize, idles: usize, first: u32, idle: u32, wasted: u32) -> Refusal
     requires { ⌜ Ended n idles first idle wasted ⌝ }
@@ -35,7 +33,7 @@ fn unused(n: usize, idles: usize, first: u32, idle: u32, wasted: u32) -> Refusal
             place: n + 1 + (idle as usize - from) / (ROWS[ID].body + 2),
         };
     }
-    if wasted < NONE {
+    if wasted < LAST_OFFSET {
         return Refusal {
             number: 19,
             place: n + 1 + idles + (wasted as usize - inversions) / (ROWS[PV].body + 2),
@@ -58,7 +56,8 @@ fn replay_fault(
     first: Offsets,
     all: usize,
 ) -> Refusal
-    requires { ⌜ CanCompare (now image) s h (now jobs) (now slack) idles first × (all ≡ all-jobs h (tasks-of s)) ⌝ }
+    requires can { ⌜ CanCompare (now image) s h (now jobs) (now slack) idles first ⌝ }
+    requires all { ⌜ all ≡ all-jobs h (tasks-of s) ⌝ }
     ensures { λ r. ⌜ RefusalTold (rebuilt (now (image .entry))) r ⌝ }
 {
     let n = s.n as usize;

@@ -7,18 +7,18 @@ use native.Mathlib.Numerals.{add-one}
 use lib.ListN.{length, getD, set, take, length-set}
 use lib.Seq.{take-all, take-suc, take-suc-set}
 
-pub record Filled (goal array : List ℕ) (i : ℕ) : Type 0 where
+pub record FilledTo (goal array : List ℕ) (i : ℕ) : Type 0 where
   pub goal-slots : length goal ≡ 16
   pub array-slots : length array ≡ 16
   pub same : take i array ≡ take i goal
 
 -- at first nothing is filled
-pub filled-none : (goal array : List ℕ) → length goal ≡ 16 → length array ≡ 16 → Filled goal array 0
+pub filled-none : (goal array : List ℕ) → length goal ≡ 16 → length array ≡ 16 → FilledTo goal array 0
 filled-none goal array g a = record { goal-slots = g; array-slots = a; same = refl }
 
-module _ {goal array : List ℕ} {i : ℕ} (f : Filled goal array i) where
+module _ {goal array : List ℕ} {i : ℕ} (f : FilledTo goal array i) where
   -- then one slot more
-  pub filled-more : (v : ℕ) → i < 16 → v ≡ getD goal i 0 → Filled goal (set array i v) (i + 1)
+  pub filled-more : (v : ℕ) → i < 16 → v ≡ getD goal i 0 → FilledTo goal (set array i v) (i + 1)
   filled-more v l e = record {
     goal-slots = f .goal-slots;
     array-slots = length-set array i v ∙ f .array-slots;

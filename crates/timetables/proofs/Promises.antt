@@ -1,5 +1,5 @@
--- What whoever checks a timetable image can rely on, from the contracts alone: one answer; and Accepted for exactly the images of a good set and a
--- valid timetable. And judging comes to one result. Assumes nothing.
+-- What whoever checks a timetable image can rely on, from the contracts alone: one answer; Accepted for exactly the images of a good set and a valid
+-- timetable; and a refusal for exactly the first test that refuses. And judging comes to one result. Assumes nothing.
 use mathlib.Core.Path.{_≡_, sym, _∙_, ap}
 use mathlib.Core.Logic.{_↔_}
 use mathlib.Core.Bool.{Bool}
@@ -13,13 +13,14 @@ use Rattle.rules.specs.declared.Task.{Task}
 use Rattle.rules.specs.declared.Entry.{Entry}
 use Rattle.rules.specs.declared.Refusal.{Refusal}
 use Rattle.rules.specs.declared.CheckAnswer.{CheckAnswer}
-use Rattle.rules.specs.declared.CheckAnswer.the-variants.{Accepted}
+use Rattle.rules.specs.declared.CheckAnswer.the-variants.{Accepted, Refused}
 use Rattle.rules.specs.Refusals.{gives, refuses}
 use Rattle.rules.specs.Judging.{tables}
 use Rattle.rules.specs.Operations.{Timed, derived, check-timetable}
-use Rattle.rules.specs.Promised.{TimetableImage}
+use Rattle.rules.specs.Promised.{TimetableImage, RefusesTimetableImage}
 use Rattle.rules.proofs.Cases.{by-bool, by-nat, clash, gives-in}
 use Rattle.rules.proofs.Demand2.{accepts-timetable}
+use Rattle.rules.proofs.Promises.{timetable-order}
 use Rattle.framing.specs.SetRead.{tasks-offset, set-read}
 use Rattle.timetables.specs.declared.Counts.{Counts}
 use Rattle.timetables.specs.declared.Timetable.{Timetable}
@@ -36,6 +37,12 @@ pub accepted-exactly : (bytes : List ℕ) → Bytes bytes → (r : CheckAnswer) 
     (r ≡ Accepted) ↔ ((ts : List Task) × (τ : List Entry) × TimetableImage bytes ts τ)
 accepted-exactly bytes b r e =
     let exactly = accepts-timetable bytes b in
+    (λ a. exactly .0 (sym e ∙ a), λ w. e ∙ exactly .1 w)
+
+-- it is a refusal exactly where that is the first that the document's order comes to
+pub refused-exactly : (bytes : List ℕ) (r : CheckAnswer) → r ≡ check-timetable bytes → (q : Refusal) → (r ≡ Refused q) ↔ RefusesTimetableImage bytes q
+refused-exactly bytes r e q =
+    let exactly = timetable-order bytes q in
     (λ a. exactly .0 (sym e ∙ a), λ w. e ∙ exactly .1 w)
 
 -- counts of one timetable are the same

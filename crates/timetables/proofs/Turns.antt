@@ -12,7 +12,7 @@ use Rattle.rules.specs.declared.Task.{Task}
 use Rattle.rules.specs.declared.TaskSet.{TaskSet}
 use Rattle.rules.specs.declared.Entry.{Entry}
 use Rattle.rules.specs.declared.Inversion.{Inversion}
-use Rattle.rules.specs.Tasks.{limits, task, release, KeepsItsRule, GoodSet}
+use Rattle.rules.specs.Tasks.{limits, largest-number, task, release, KeepsItsRule, GoodSet}
 use Rattle.rules.specs.Setting.{Setting, instant}
 use Rattle.rules.specs.Priority.{slot, start-job, by-priority, entry-breaks, setting-of}
 use Rattle.rules.specs.Marks.{SL, size}
@@ -90,7 +90,7 @@ module _ {bytes : List ℕ} {s : TaskSet} {h : ℕ} {releases next : List ℕ} {
   slot-keeps i d l = rw (task-in-slot (s .tasks) (s .n) i d room l) at (good-rules good i)
 
   -- the end of a cycle and a deadline together fit 32 bits
-  pub slot-short : (i : ℕ) (d : Task) → i < s .n → h + getD (s .tasks) i d .deadline ≤ 4294967295
+  pub slot-short : (i : ℕ) (d : Task) → i < s .n → h + getD (s .tasks) i d .deadline ≤ largest-number
   slot-short i d l =
       let same : getD (s .tasks) i d ≡ task ts i = sym (task-in-slot (s .tasks) (s .n) i d room l) in
       let period : task ts i .period ≤ h = le-of-dvd {m = task ts i .period} {n = h} (good-positive good) (good .is-hyperperiod .common i (omega (arith, tasks-many))) in

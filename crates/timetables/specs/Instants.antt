@@ -3,11 +3,12 @@ use mathlib.Core.Bool.{Bool, true, false}
 use mathlib.Core.List.{List, [], _∷_}
 use Prim.Native.Nat.{ℕ, min}
 use lib.Dec.{leb}
+use Rattle.rules.specs.Tasks.{largest-number}
 use Rattle.rules.specs.Timetable.{pick}
 
 -- an instant that no release comes to
 abbrev pub never : ℕ
-never = 4294967295
+never = largest-number
 
 -- the least of instants
 abbrev pub least-of : List ℕ → ℕ

@@ -19,6 +19,7 @@ ghost use Prim.Native.Nat.{_+_, max, _≤_, _<_};
 ghost use lib.Dec.{ltb};
 ghost use lib.ListN.{length, take};
 ghost use Rattle.rules.specs.Marks as book-marks;
+ghost use Rattle.rules.specs.Tasks.{largest-number};
 ghost use Rattle.rules.specs.Operations.{check-timetable};
 ghost use Rattle.timetables.specs.Walks as walks;
 ghost use Rattle.framing.specs.SetRead.{tasks-offset};
@@ -42,7 +43,8 @@ pub fn first_releases(s: TaskSet) -> [u32; 16]
 // The number of the first rule that a start of a task's next job breaks, 12 to 15 in that order; 0 for none. A release from the end of the cycle on
 // says that no job is left. One test sees both a start before its release, where the difference wraps, and a late one.
 fn start_breaks(t: Task, h: u32, release: u32, free: u32, start: u32) -> u32
-    requires { ⌜ (t .time ≤ t .deadline) × (h + t .deadline ≤ 4294967295) ⌝ }
+    requires fits { ⌜ t .time ≤ t .deadline ⌝ }
+    requires short { ⌜ h + t .deadline ≤ largest-number ⌝ }
     ensures { λ r. ⌜ r ≡ walks.start-breaks t h release free start ⌝ }
 {
     if h <= release {
@@ -95,7 +97,8 @@ fn missing(n: usize, h: u32, release: &[u32; 16]) -> usize
 
 // Is one of n jobs released before an instant?
 fn some_earlier(n: usize, release: &[u32; 16], start: u32) -> bool
-    requires { ⌜ (n ≤ 16) × (length (now release) ≡ 16) ⌝ }
+    requires few { ⌜ n ≤ 16 ⌝ }
+    requires slots { ⌜ length (now release) ≡ 16 ⌝ }
     ensures { λ r. ⌜ r ≡ ltb (least-of (take n (now (release .entry)))) start ⌝ }
 {
     let mut k: usize = 0;
@@ -110,7 +113,9 @@ fn some_earlier(n: usize, release: &[u32; 16], start: u32) -> bool
 
 // Is the processor idle before a start of task i though a job waits for it? The start's own job, if it was released before, is such a job.
 pub fn idles_before(n: usize, release: &[u32; 16], i: usize, free: u32, start: u32) -> bool
-    requires { ⌜ (i < n) × (n ≤ 16) × (length (now release) ≡ 16) ⌝ }
+    requires a_task { ⌜ i < n ⌝ }
+    requires few { ⌜ n ≤ 16 ⌝ }
+    requires slots { ⌜ length (now release) ≡ 16 ⌝ }
     ensures { λ r. ⌜ r ≡ ltb (max free (least-of (take n (now (release .entry))))) start ⌝ }
 {
     if start <= free {
@@ -124,7 +129,8 @@ pub fn idles_before(n: usize, release: &[u32; 16], i: usize, free: u32, start: u
 
 // Does a task below i have a job released at or before an instant and not started?
 pub fn lower_waits(release: &[u32; 16], i: usize, start: u32) -> bool
-    requires { ⌜ (i ≤ 16) × (length (now release) ≡ 16) ⌝ }
+    requires few { ⌜ i ≤ 16 ⌝ }
+    requires slots { ⌜ length (now release) ≡ 16 ⌝ }
     ensures { λ r. ⌜ r ≡ some-by start (take i (now (release .entry))) ⌝ }
 {
     let mut k: usize = 0;

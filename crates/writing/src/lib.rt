@@ -44,7 +44,8 @@ fn room(len: usize, at: usize) -> usize
 
 // A mark's two bytes at a place.
 fn put_mark(out: &mut [u8], at: usize, k: usize)
-    requires { ⌜ (k < 6) × (at + 2 ≤ length (now out)) ⌝ }
+    requires row { ⌜ k < 6 ⌝ }
+    requires inside { ⌜ at + 2 ≤ length (now out) ⌝ }
     ensures { λ _. ⌜ now (out .exit) ≡ mark-put (now (out .entry)) at k ⌝ }
 {
     let r = images::row_of(k);
@@ -53,7 +54,7 @@ fn put_mark(out: &mut [u8], at: usize, k: usize)
 }
 
 // A TS record at a place; nothing where it does not fit, as with each of the following.
-pub fn put_head(out: &mut [u8], at: usize, kind: u32, n: u32)
+fn put_head(out: &mut [u8], at: usize, kind: u32, n: u32)
     ensures { λ _. ⌜ now (out .exit) ≡ record-put (now (out .entry)) at (book.record-of book-marks.TS (1 ∷ (kind ∷ (n ∷ [])))) ⌝ }
 {
     if HEAD <= room(out.len(), at) {
@@ -65,7 +66,7 @@ pub fn put_head(out: &mut [u8], at: usize, kind: u32, n: u32)
 }
 
 // A TK record at a place.
-pub fn put_task(out: &mut [u8], at: usize, t: Task)
+fn put_task(out: &mut [u8], at: usize, t: Task)
     ensures { λ _. ⌜ now (out .exit) ≡ record-put (now (out .entry)) at (book.record-of book-marks.TK (book.of-task t)) ⌝ }
 {
     if TASK <= room(out.len(), at) {
@@ -123,7 +124,8 @@ pub fn put_end(out: &mut [u8], at: usize, before: u32)
 
 // TS and the tasks at the front of the output.
 pub fn put_set(out: &mut [u8], kind: u32, s: TaskSet)
-    requires { ⌜ (s .n ≤ 16) × (behind-tasks (s .n) ≤ length (now out)) ⌝ }
+    requires few { ⌜ s .n ≤ 16 ⌝ }
+    requires inside { ⌜ behind-tasks (s .n) ≤ length (now out) ⌝ }
     ensures { λ _. ⌜ now (out .exit) ≡ put-at (now (out .entry)) 0 (book.image (book.set-records kind (take (s .n) (s .tasks)))) ⌝ }
 {
     put_head(out, 0, kind, s.n);

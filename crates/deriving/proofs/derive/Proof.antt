@@ -133,12 +133,13 @@ returns-3 c =
     let room = set .before .before in
     let placed = room .before .before .before in
     let q = placed .before .before .before in
-    let at = placed .first-entry .ensures in (
-      answered (image-of q) (judged q) (is-good q) _ _ (omega arith) (room .if2 .left),
-      put-out (image-of q) (judged q) (is-good q) _ _ (omega arith) (room .if2 .left) _ _ _ _ _
+    let at = placed .first-entry .ensures in
+    record {
+      answer = answered (image-of q) (judged q) (is-good q) _ _ (omega arith) (room .if2 .left);
+      output = put-out (image-of q) (judged q) (is-good q) _ _ (omega arith) (room .if2 .left) _ _ _ _ _
           (set .put-set .ensures) (records .put-irregularities .ensures)
-          (end .put-end .ensures) (omega arith) (omega arith),
-    )
+          (end .put-end .ensures) (omega arith) (omega arith);
+    }
 
 pub derive-spec : {M : Type 1} → statement M
 derive-spec =

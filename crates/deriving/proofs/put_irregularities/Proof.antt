@@ -88,7 +88,7 @@ idles-before-requires : tie.Need-idles-before-requires Inv-loop μ-loop
 idles-before-requires c κs =
     let read = c .before .before .before in
     let walk = read .before .before .loop .inv .walk in
-    (entry-task walk (read .before .loop-test .taken) (read .entry-at .ensures) zero-task, omega (arith, walk .all .few), releases-many (walk .here))
+    (entry-task walk (read .before .loop-test .taken) (read .entry-at .ensures) zero-task, (omega (arith, walk .all .few), releases-many (walk .here)))
 
 instant-requires : tie.Need-instant-requires Inv-loop μ-loop
 instant-requires c κs =

@@ -23,7 +23,7 @@ returns c =
     let start = at-numbers-of .before .before in
     let turn : record { answer = c .before .before .go-on-numbers .result; state = c .state-from .result }
     ≡ go-on (start .args .image .now) (state-from (at-numbers-of .numbers-of .result)) (start .args .end) =
-    λ i. record { answer = gone-on .0 i; state = (c .state-from .ensures ∙ gone-on .2) i } in
+    λ i. record { answer = gone-on .its-answer i; state = (c .state-from .ensures ∙ gone-on .its-state) i } in
     turn ∙ ap (λ (s : State). go-on (start .args .image .now) s (start .args .end)) (at-numbers-of .numbers-of .ensures .1)
 
 pub go-on-spec : {M : Type 1} → statement M

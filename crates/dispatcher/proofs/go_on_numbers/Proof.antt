@@ -15,11 +15,12 @@ store-requires c κs = c .before .going .ensures .stores
 returns : tie.Need-returns
 returns c =
     let made = sym (c .before .before .going .ensures .makes) in
-    let stored = c .store .ensures in (
-      stored .0 ∙ ap (λ (turn : Turn). turn .answer) made,
-      stored .1 ∙ ap (λ (turn : Turn). numbers (turn .state)) made,
-      stored .2 ∙ ap (λ (turn : Turn). turn .state) made,
-    )
+    let stored = c .store .ensures in
+    record {
+      its-answer = stored .its-answer ∙ ap (λ (turn : Turn). turn .answer) made;
+      its-numbers = stored .its-numbers ∙ ap (λ (turn : Turn). numbers (turn .state)) made;
+      its-state = stored .its-state ∙ ap (λ (turn : Turn). turn .state) made;
+    }
 
 pub go-on-numbers-spec : {M : Type 1} → statement M
 go-on-numbers-spec = tie.close (tie.spec going-requires store-requires returns)

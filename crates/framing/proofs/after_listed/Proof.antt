@@ -26,7 +26,7 @@ returns : tie.Need-returns
 returns c =
     let r = c .before .before .before .before in
     let p = r .before .before .pre in
-    one-listed _ _ _ _ _ (p .0) (p .1) (r .row-of .ensures)
+    one-listed _ _ _ _ _ (p .0) (p .1 .0) (r .row-of .ensures)
 
 pub after-listed-spec : {M : Type 1} → statement M
 after-listed-spec = tie.close (tie.spec row-of-requires add-t6 add-t7 add-t8 add-t9 returns)

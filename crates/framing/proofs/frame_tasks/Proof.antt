@@ -40,10 +40,10 @@ unfolding Steps
 records-less c =
     let t = c .before .before in
     let f = goes-further _ _ _ _ (t .before .before .step-at .ensures) _ (t .t .given .1) in
-    omega (arith, f .1, c .past-tasks .ensures .0 .placed .inside, c .past-tasks .ensures .2)
+    omega (arith, f .1, c .past-tasks .ensures .reached .placed .inside, c .past-tasks .ensures .onwards)
 
 records-again : tie.Need-records-again Inv-records μ-records
-records-again c = (c .past-tasks .ensures .0, c .past-tasks .ensures .1)
+records-again c = (c .past-tasks .ensures .reached, c .past-tasks .ensures .towards)
 
 enum-known-r : tie.Need-enum-known-r Inv-records μ-records
 enum-known-r c = search needs

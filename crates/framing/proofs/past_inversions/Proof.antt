@@ -45,7 +45,7 @@ returns-3 c =
     let n = e .before in
     let r = n .before in
     let p = r .before .before .before .pre in
-    inversions-passed (p .0) (p .1) _ _ _ (r .before .if1 .left) (p .2) (r .row-of .ensures) (n .run .ensures) (e .if2 .left)
+    inversions-passed (p .reached) (p .behind-tasks) _ _ _ (r .before .if1 .left) (p .a-rank) (r .row-of .ensures) (n .run .ensures) (e .if2 .left)
 
 pub past-inversions-spec : {M : Type 1} → statement M
 past-inversions-spec =

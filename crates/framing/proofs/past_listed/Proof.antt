@@ -49,11 +49,12 @@ returns-2 c =
     let j = r .before in
     let p = j .before .before .pre in
     let l = ⊎-elim (λ w. lists-entries _ _ (w .0 .taken) (w .1)) (λ w. lists-idles _ _ (w .0 .left) (w .1)) (j .if1 .came) in
-    let rank = ap (λ (q : Row). q .rank) (r .row-of .ensures) in (
-      listed-passed (p .0) (p .1) _ _ _ _ l (p .2) (r .row-of .ensures) (n .run .ensures) (e .if2 .left),
-      omega (arith, l .rank),
-      omega (arith, l .rank),
-    )
+    let rank = ap (λ (q : Row). q .rank) (r .row-of .ensures) in
+    record {
+      reached = listed-passed (p .reached) (p .behind-tasks) _ _ _ _ l (p .a-rank) (r .row-of .ensures) (n .run .ensures) (e .if2 .left);
+      behind-tasks = omega (arith, l .rank);
+      a-rank = omega (arith, l .rank);
+    }
 
 pub past-listed-spec : {M : Type 1} → statement M
 past-listed-spec =

@@ -108,7 +108,7 @@ after-inversion-requires : tie.Need-after-inversion-requires
 after-inversion-requires c κs = whole-as _ _ _ 4 (c .match .keys3) (whole (c .before))
 
 after-listed-requires : tie.Need-after-listed-requires
-after-listed-requires c κs = (omega (arith, c .before .match .rest .0 .1, c .before .match .rest .0 .0 .1), c .if5 .taken, whole (c .before .before))
+after-listed-requires c κs = (omega (arith, c .before .match .rest .0 .1, c .before .match .rest .0 .0 .1), (c .if5 .taken, whole (c .before .before)))
 
 after-end-requires : tie.Need-after-end-requires
 after-end-requires c κs = whole-as _ _ _ 5 (five c) (whole (c .before .before))

@@ -13,7 +13,7 @@ told-start-requires c κs = search needs
 returns : tie.Need-returns
 returns c =
     let gone-on = c .before .before .go-on-numbers .ensures in
-    record { told = start-told (gone-on .0) (c .told-start .ensures); its-numbers = gone-on .1; its-state = gone-on .2 }
+    record { told = start-told (gone-on .its-answer) (c .told-start .ensures); its-numbers = gone-on .its-numbers; its-state = gone-on .its-state }
 
 pub hv-go-on-spec : {M : Type 1} → statement M
 hv-go-on-spec = tie.close (tie.spec go-on-numbers-requires told-start-requires returns)

@@ -16,7 +16,7 @@ same-length c = search needs
 returns : tie.Need-returns
 returns c =
     let d = c .before .before .before .before .before .rebuild .ensures in
-    record { told = make-told (d .0) (c .told-make .ensures); its-output = d .1 }
+    record { told = make-told (d .answer) (c .told-make .ensures); its-output = d .output }
 
 pub hv-rebuild-spec : {M : Type 1} → statement M
 hv-rebuild-spec = tie.close (tie.spec rebuild-requires told-make-requires same-length returns)

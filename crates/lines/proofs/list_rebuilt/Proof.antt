@@ -24,7 +24,7 @@ refused c =
     let known = call .before .before .before .before in
     let start = known .before in
     refused-so (start .args .image .now) (start .args .rebuilt .now) (bytes known) (start .pre .0) (call .rebuild .result) (call .rebuild .last .1 .0)
-    (call .rebuild .ensures .0) (call .rebuild .ensures .1) (c .r .given .0 .0) (c .r .given .1)
+    (call .rebuild .ensures .answer) (call .rebuild .ensures .output) (c .r .given .0 .0) (c .r .given .1)
 
 -- and of what is rebuilt
 made : (c : tie.After-len) → RebuiltIn (c .before .before .before .before .before .before .before .before .before .args .image .now)
@@ -34,7 +34,7 @@ made c =
     let known = call .before .before .before .before in
     let start = known .before in
     made-so (start .args .image .now) (start .args .rebuilt .now) (bytes known) (start .pre .0) (call .rebuild .result) (call .rebuild .last .1 .0)
-    (call .rebuild .ensures .0) (call .rebuild .ensures .1) (c .len .given .0 .0) (c .len .given .1)
+    (call .rebuild .ensures .answer) (call .rebuild .ensures .output) (c .len .given .0 .0) (c .len .given .1)
 
 rebuild-requires : tie.Need-rebuild-requires
 rebuild-requires c κs = search needs

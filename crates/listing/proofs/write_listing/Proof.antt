@@ -1,4 +1,4 @@
--- `listing::write_listing` meets its contract: the listing is within the text. Assumes nothing.
+-- `listing::write_listing` is safe: what is listed is within the text. Assumes nothing.
 use mathlib.Core.Path.{sym}
 use native.Mathlib.Omega.{arith}
 use borrow.Author.Needs.{needs}
@@ -16,14 +16,23 @@ list-requires c κs = search needs
 array-share-prefix-text : tie.Need-array-share-prefix-text
 array-share-prefix-text c = front-inside (c .before .list .ensures .lists (omega arith))
 
-slice-aggregate-write-all : tie.Need-slice-aggregate-write-all
-slice-aggregate-write-all c = sym (length-take-le _ _ (front-inside (c .before .before .list .ensures .lists (omega arith))))
+slice-aggregate-write-text : tie.Need-slice-aggregate-write-text
+slice-aggregate-write-text c = sym (length-take-le _ _ (front-inside (c .before .before .list .ensures .lists (omega arith))))
 
-write-all-requires : tie.Need-write-all-requires
-write-all-requires c κs = search needs
+write-text-requires : tie.Need-write-text-requires
+write-text-requires c κs = search needs
+
+slice-aggregate-fail : tie.Need-slice-aggregate-fail
+slice-aggregate-fail c = search needs
+
+fail-requires : tie.Need-fail-requires
+fail-requires c κs = search needs
 
 returns : tie.Need-returns
 returns c = search needs
+
+returns-2 : tie.Need-returns-2
+returns-2 c = search needs
 
 pub write-listing-spec : {M : Type 1} → statement M
 write-listing-spec =
@@ -32,6 +41,9 @@ write-listing-spec =
     slice-aggregate-list
     list-requires
     array-share-prefix-text
-    slice-aggregate-write-all
-    write-all-requires
-    returns)
+    slice-aggregate-write-text
+    write-text-requires
+    slice-aggregate-fail
+    fail-requires
+    returns
+    returns-2)

@@ -80,7 +80,7 @@ returns c =
     let start = at .before .before in
     let old = start .args .numbers .now in
     let all : at .loop .i ≡ start .args .n = omega arith in
-    (at .loop .inv .2 (state-from old) (cycle-counted old (start .pre .2)) ∙ ap (in-next-cycle (state-from old)) all, at .loop .inv .1)
+    (at .loop .inv .2 (state-from old) (cycle-counted old (start .pre .1 .1)) ∙ ap (in-next-cycle (state-from old)) all, at .loop .inv .1)
 
 pub begin-again-spec : {M : Type 1} → statement M
 begin-again-spec =

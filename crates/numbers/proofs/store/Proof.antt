@@ -3,7 +3,7 @@ use mathlib.Core.Path.{_≡_}
 use Prim.Native.Nat.{_≤_, _<_}
 use native.Mathlib.Omega.{arith}
 use lib.ListN.{length}
-use Rattle.rules.specs.Dispatcher.{number-count, last-cycle}
+use Rattle.rules.specs.Dispatcher.{number-count}
 use Rattle.numbers.specs.Numbers.{number-at}
 use Rattle.numbers.proofs.StoredMoves.{stays, stops, moves-on, moves-again}
 use borrow.Author.Needs.{needs}
@@ -61,14 +61,14 @@ begin-again-requires c κs =
     let at = c .before .before .before .before in
     let start = at .before .before .before .before .before in
     let is = at .g3 .given .1 in
-    (start .pre .few _ is, start .pre .cycle-fits _ is (c .before .before .if1 .taken), long (at .before .before))
+    (start .pre .few _ is, (start .pre .cycle-fits _ is (c .before .before .if1 .taken), long (at .before .before)))
 
 store-move-requires : tie.Need-store-move-requires
 store-move-requires c κs =
     let test = c .before .before .before .before in
     let at = test .before .before in
     let start = at .before .before .before .before .before in
-    (a-task (test .before), start .pre .next-fits _ (at .g3 .given .1), c .before .begin-again .ensures .1)
+    (a-task (test .before), (start .pre .next-fits _ (at .g3 .given .1), c .before .begin-again .ensures .1))
 
 element-copy-out-t17 : tie.Need-element-copy-out-t17
 element-copy-out-t17 c = search needs
@@ -88,7 +88,7 @@ store-move-requires-2 c κs =
     let test = c .before in
     let at = test .before .before in
     let start = at .before .before .before .before .before in
-    (a-task (test .before), start .pre .next-fits _ (at .g3 .given .1), long (at .before .before))
+    (a-task (test .before), (start .pre .next-fits _ (at .g3 .given .1), long (at .before .before)))
 
 element-copy-out-t28 : tie.Need-element-copy-out-t28
 element-copy-out-t28 c = search needs

@@ -44,7 +44,7 @@ returns : tie.Need-returns
 returns c =
     let start = c .before .before in
     let old = start .args .numbers .now in
-    let made = start-made old (start .args .m) (start .pre .2) (start .pre .0) in
+    let made = start-made old (start .args .m) (start .pre .1 .1) (start .pre .0) in
     (made .0, made .1)
 
 pub store-move-spec : {M : Type 1} → statement M

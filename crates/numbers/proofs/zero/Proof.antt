@@ -1,10 +1,10 @@
 -- `numbers::zero` meets its contract. The loop's invariant: as many zeros as turns were made are stored. Assumes nothing.
-use mathlib.Core.Path.{_≡_, refl, sym, _∙_, ap}
+use mathlib.Core.Path.{_≡_, refl, _∙_, ap}
 use mathlib.Core.List.{List}
 use Prim.Native.Nat.{ℕ, _+_, _-_, _≤_}
 use native.Mathlib.Omega.{arith}
 use borrow.Author.Needs.{needs}
-use lib.ListN.{length, take, set, replicate}
+use lib.ListN.{take, set, replicate}
 use lib.Seq.{sets}
 use Rattle.numbers.proofs.StoredNumbers.{zero-more, all-zeros}
 use Rattle.numbers.proofs.zero.Statement.{statement}

@@ -45,7 +45,7 @@ returns c =
     let set-kept = call .before .before .before .before .before in
     let begin = set-kept .before .before .before .before in
     λ τ b. all-put b (slots (set-kept .before)) (set-kept .before .jobs-of .ensures) (set-kept .slack-of .ensures) (bytes begin)
-    (begin .before .pre .0) (call .before .first-record .ensures) (call .cycle .ensures .1)
+    (begin .before .pre .0) (call .before .first-record .ensures) (call .cycle .ensures .output)
 
 pub put-entries-spec : {M : Type 1} → statement M
 put-entries-spec =

@@ -124,13 +124,14 @@ returns-3 : tie.Need-returns-3
 returns-3 c =
     let q = c .before .before .before .before .before .before .before .before .before .before .before .before .before in
     let room = c .before .before .before .before .before .before .before .before .before .before .before .before .if2 .left in
-    let placed = q .first-record .ensures in (
-      answered _ _ _ _ _ (behind q) (slots q) _ (is-good q .starts) _ _ (omega (arith, placed)) room,
-      put-out _ _ _ _ _ (behind q) (slots q) _ (is-good q .starts) _ _ (omega (arith, placed)) room _ _ _ _ _
+    let placed = q .first-record .ensures in
+    record {
+      answer = answered _ _ _ _ _ (behind q) (slots q) _ (is-good q .starts) _ _ (omega (arith, placed)) room;
+      output = put-out _ _ _ _ _ (behind q) (slots q) _ (is-good q .starts) _ _ (omega (arith, placed)) room _ _ _ _ _
           (c .before .before .before .before .before .before .before .before .before .before .put-set .ensures)
           (c .before .before .before .before .before .before .put-entries .ensures _ (behind q))
-          (c .before .before .put-end .ensures) (omega (arith, placed)) (omega arith),
-    )
+          (c .before .before .put-end .ensures) (omega (arith, placed)) (omega arith);
+    }
 
 pub rebuild-spec : {M : Type 1} → statement M
 rebuild-spec =

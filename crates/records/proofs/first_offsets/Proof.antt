@@ -47,7 +47,7 @@ fill-requires c κs =
     let at = read .before .before in
     let start = at .before .before .before in
     let few = task-here (at .loop .inv) (omega arith) _ (read .inversion-at .ensures) (start .pre .tasks) in
-    (omega arith, omega (arith, start .pre .few), at .loop .inv .slots)
+    (omega arith, (omega (arith, start .pre .few), at .loop .inv .slots))
 
 add-at-2 : tie.Need-add-at-2 Inv-loop μ-loop
 add-at-2 c = search needs
@@ -75,7 +75,7 @@ cast-fill-2 c = search needs
 fill-requires-2 : tie.Need-fill-requires-2 Inv-loop μ-loop
 fill-requires-2 c κs =
     let at = c .before .before in
-    (at .loop .inv .few-filled, at .before .before .before .pre .few, at .loop .inv .slots)
+    (at .loop .inv .few-filled, (at .before .before .before .pre .few, at .loop .inv .slots))
 
 first-record-requires-2 : tie.Need-first-record-requires-2 Inv-loop μ-loop
 first-record-requires-2 c κs = search needs

@@ -37,7 +37,7 @@ starts-requires c κs =
     let are = at .fill-from .ensures in (
       tasks-of (start .args .s),
       cycle-can (bytes at) (slots at) (start .pre .0) _ _ _ _
-          (record { times-are = are .1; periods-are = are .2; releases-are = are .0; all-are = start .pre .1 }),
+          (record { times-are = are .1 .0; periods-are = are .1 .1; releases-are = are .0; all-are = start .pre .1 }),
     )
 
 same-length : tie.Need-same-length
@@ -50,7 +50,7 @@ returns c =
     let a = start .args in
     let are = at .fill-from .ensures in
     let as-needed : CycleFilled (a .s) (a .h) _ _ _ (a .all) =
-    record { times-are = are .1; periods-are = are .2; releases-are = are .0; all-are = start .pre .1 } in
+    record { times-are = are .1 .0; periods-are = are .1 .1; releases-are = are .0; all-are = start .pre .1 } in
     rw (← cycle-run (a .image .now) (a .s) (a .h) (a .first) _ _ _ _ as-needed)
     (c .before .before .starts .ensures _ (cycle-can (bytes at) (slots at) (start .pre .0) _ _ _ _ as-needed))
 

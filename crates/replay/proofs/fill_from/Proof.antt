@@ -23,7 +23,7 @@ abbrev μ-loop : tie.MeasureT-loop
 loop-holds : tie.Need-loop-holds Inv-loop μ-loop
 loop-holds c =
     let given = c .pre in
-    rw (given .0, given .1, given .2) (omega arith, filled-none zeros _ 0, filled-none zeros _ 0, filled-none zeros _ 0)
+    rw (given .0, given .1 .0, given .1 .1) (omega arith, filled-none zeros _ 0, filled-none zeros _ 0, filled-none zeros _ 0)
 
 mul-t : tie.Need-mul-t Inv-loop μ-loop
 mul-t c = search needs
@@ -74,8 +74,7 @@ returns c =
     let slots : length tasks ≡ 16 = search (needs, slots-counted) in
     let inv = at .loop .inv in (
       values-all _ tasks (inv .1) slots (omega arith),
-      values-all _ tasks (inv .2) slots (omega arith),
-      values-all _ tasks (inv .3) slots (omega arith),
+      (values-all _ tasks (inv .2) slots (omega arith), values-all _ tasks (inv .3) slots (omega arith)),
     )
 
 pub fill-from-spec : {M : Type 1} → statement M

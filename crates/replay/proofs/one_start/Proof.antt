@@ -17,7 +17,7 @@ starts-requires c κs =
 returns : tie.Need-returns
 returns c =
     let start = c .before .before .before .before .before .before in
-    λ ts fits. ap (λ (r : Run). r .last) (c .before .starts .ensures ts (one-may-run _ _ _ _ _ fits (start .pre .1)) .0) ∙ one-answer ts _ _ _ _
+    λ ts fits. ap (λ (r : Run). r .last) (c .before .starts .ensures ts (one-may-run _ _ _ _ _ fits (start .pre .1)) .told) ∙ one-answer ts _ _ _ _
 
 pub one-start-spec : {M : Type 1} → statement M
 one-start-spec = tie.close (tie.spec slice-aggregate-starts starts-requires returns)

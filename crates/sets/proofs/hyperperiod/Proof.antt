@@ -56,12 +56,12 @@ task-from-requires c κs = search needs
 returns : tie.Need-returns Inv-loop μ-loop
 returns c =
     let start = c .before .before .before in
-    starts-long (slots start) (start .args .n) (start .pre .0) (room start) (start .pre .3) _ (last-read (c .before)) (c .if1 .taken)
+    starts-long (slots start) (start .args .n) (start .pre .0) (room start) (start .pre .1 .1 .1) _ (last-read (c .before)) (c .if1 .taken)
 
 loop-holds : tie.Need-loop-holds Inv-loop μ-loop
 loop-holds c =
     let start = c .before .before .before in
-    cycle-starts (slots start) (start .args .n) (start .pre .0) (room start) (start .pre .3) _ (last-read (c .before)) (c .if1 .left)
+    cycle-starts (slots start) (start .args .n) (start .pre .0) (room start) (start .pre .1 .1 .1) _ (last-read (c .before)) (c .if1 .left)
 
 sub-i-2 : tie.Need-sub-i-2 Inv-loop μ-loop
 sub-i-2 c = search needs
@@ -78,14 +78,14 @@ task-from-requires-2 c κs = search needs
 common-multiple-requires : tie.Need-common-multiple-requires Inv-loop μ-loop
 common-multiple-requires c κs =
     let at = c .before .before .before .before in
-    let no-fault = at .before .before .before .before .pre .3 in
-    (period-before (at .loop .inv) (omega arith) no-fault _ (next-read (c .before .before)), at .loop .inv .some-ticks, at .loop .inv .short)
+    let no-fault = at .before .before .before .before .pre .1 .1 .1 in
+    (period-before (at .loop .inv) (omega arith) no-fault _ (next-read (c .before .before)), (at .loop .inv .some-ticks, at .loop .inv .short))
 
 returns-2 : tie.Need-returns-2 Inv-loop μ-loop
 returns-2 c =
     let got = c .before .before .before .before in
     let at = got .before .before in
-    let no-fault = at .before .before .before .before .pre .3 in
+    let no-fault = at .before .before .before .before .pre .1 .1 .1 in
     cycle-long (at .loop .inv) (omega arith) no-fault _ (next-read got) _ (c .before .common-multiple .ensures) (c .if3 .taken)
 
 loop-less : tie.Need-loop-less Inv-loop μ-loop
@@ -95,7 +95,7 @@ loop-again : tie.Need-loop-again Inv-loop μ-loop
 loop-again c =
     let got = c .before .before .before .before in
     let at = got .before .before in
-    let no-fault = at .before .before .before .before .pre .3 in
+    let no-fault = at .before .before .before .before .pre .1 .1 .1 in
     cycle-more (at .loop .inv) (omega arith) no-fault _ (next-read got) _ (c .before .common-multiple .ensures) (c .if3 .left)
 
 loop-less-2 : tie.Need-loop-less-2 Inv-loop μ-loop
@@ -105,7 +105,7 @@ loop-again-2 : tie.Need-loop-again-2 Inv-loop μ-loop
 loop-again-2 c =
     let got = c .before .before in
     let at = got .before .before in
-    let no-fault = at .before .before .before .before .pre .3 in
+    let no-fault = at .before .before .before .before .pre .1 .1 .1 in
     cycle-same (at .loop .inv) (omega arith) no-fault _ (next-read got) (c .if2 .left)
 
 returns-3 : tie.Need-returns-3 Inv-loop μ-loop

@@ -45,7 +45,7 @@ returns-2 c =
 hyperperiod-requires : tie.Need-hyperperiod-requires
 hyperperiod-requires c κs =
     let at = c .before .before .before in
-    (in-slots at .some-tasks, in-slots at .few-tasks, at .before .before .before .pre, no-fault c)
+    (in-slots at .some-tasks, (in-slots at .few-tasks, (at .before .before .before .pre, no-fault c)))
 
 returns-3 : tie.Need-returns-3
 returns-3 c =

@@ -36,22 +36,22 @@ unused-requires : tie.Need-unused-requires
 unused-requires c κs =
     let ended = c .before .before .before .before in
     let known = ended .before .before .before in
-    rw (ended .cycle .ensures .0)
-    (replay-at-ends (bytes known) (slots known) (known .before .pre .0) _ (rw (ended .cycle .ensures .0) at (c .before .last .given .1)))
+    rw (ended .cycle .ensures .told)
+    (replay-at-ends (bytes known) (slots known) (known .before .pre .0) _ (rw (ended .cycle .ensures .told) at (c .before .last .given .1)))
 
 returns : tie.Need-returns
 returns c =
     let ended = c .before .before .before in
     let known = ended .before .before .before in
-    rw (ended .cycle .ensures .0)
-    (replay-at-late (bytes known) (slots known) (known .before .pre .0) _ (rw (ended .cycle .ensures .0) at (c .enum-told .given .1)))
+    rw (ended .cycle .ensures .told)
+    (replay-at-late (bytes known) (slots known) (known .before .pre .0) _ (rw (ended .cycle .ensures .told) at (c .enum-told .given .1)))
 
 returns-2 : tie.Need-returns-2
 returns-2 c =
     let ended = c .before .before .before .before .before in
     let known = ended .before .before .before in
-    rw (c .unused .ensures, ended .cycle .ensures .0)
-    (replay-at-done (bytes known) (slots known) (known .before .pre .0) _ (rw (ended .cycle .ensures .0) at (c .before .before .last .given .1)))
+    rw (c .unused .ensures, ended .cycle .ensures .told)
+    (replay-at-done (bytes known) (slots known) (known .before .pre .0) _ (rw (ended .cycle .ensures .told) at (c .before .before .last .given .1)))
 
 pub replay-fault-spec : {M : Type 1} → statement M
 replay-fault-spec =

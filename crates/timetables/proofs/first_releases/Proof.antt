@@ -8,12 +8,12 @@ use borrow.Author.Needs.{needs}
 use Rattle.rules.proofs.Arrays.{slots-counted}
 use Rattle.timetables.specs.Walks.{next-releases}
 use Rattle.timetables.proofs.Releases.{releases-length, first-in-slot}
-use Rattle.timetables.proofs.Filled.{Filled, filled-none, filled-more, filled-all}
+use Rattle.timetables.proofs.Filled.{FilledTo, filled-none, filled-more, filled-all}
 use Rattle.timetables.proofs.first_releases.Statement.{statement}
 use Rattle.timetables.proofs.first_releases.Tie as tie
 
 abbrev Inv-loop : tie.InvT-loop
-Inv-loop s release₀ i₀ release i = Filled (next-releases (s .tasks) []) release i
+Inv-loop s release₀ i₀ release i = FilledTo (next-releases (s .tasks) []) release i
 
 abbrev μ-loop : tie.MeasureT-loop
 μ-loop s release₀ i₀ release i = 16 - i

@@ -99,7 +99,7 @@ idles-before-requires : tie.Need-idles-before-requires Inv-entries μ-entries
 idles-before-requires c κs =
     let chosen = c .before .before .before .before .before .before in
     let here = chosen .before .before .before .before .before .entries .inv .judged .here in
-    (omega (arith, chosen .if2 .left), omega (arith, here .stand .few), releases-many here)
+    (omega (arith, chosen .if2 .left), (omega (arith, here .stand .few), releases-many here))
 
 add-idles : tie.Need-add-idles Inv-entries μ-entries
 add-idles c =

@@ -1,0 +1,142 @@
+//! Asks the stored cases on standard input, one a line, of the implementation written for speed and of
+//! the archive, and tells where the two, or either and the stored answer, differ. It fails too where an
+//! operation, a success or a refusal of one, or one of document 01's numbers never came.
+
+mod archive;
+mod fast;
+#[allow(dead_code)]
+mod written;
+
+use archive::{Refusal, State, Step, NUMBERS};
+use fast::{dispatcher, unlimited};
+use std::collections::BTreeMap;
+use std::io::{stdin, BufRead};
+use std::process::ExitCode;
+use written::{
+    archive_answer, bytes_from, check_answer, go_answer, operation, run_answer, step_text,
+    turn_answer,
+};
+
+/// The operations that both have; a run is a beginning and going on.
+const BOTH: [&str; 7] = [
+    "check1", "derive", "check2", "rebuild", "begin", "go", "run",
+];
+const LAST_NUMBER: u32 = 25;
+const FILLING: u8 = 0x5A;
+
+fn main() -> ExitCode {
+    let mut came: BTreeMap<(String, u32), u64> = BTreeMap::new();
+    let (mut cases, mut differ) = (0, 0);
+    for line in stdin().lock().lines() {
+        let line = line.expect("standard input can be read");
+        let Some((case, stored)) = line.split_once(" => ") else {
+            continue;
+        };
+        if !BOTH.contains(&operation(case)) {
+            continue;
+        }
+        let fast = fast_answer(case).expect("a stored case can be read");
+        let archive = archive_answer(case).expect("a stored case can be read");
+        cases += 1;
+        if fast != archive || fast != stored {
+            differ += 1;
+            println!("{line}\n  archive: {archive}\n  fast: {fast}");
+        }
+        let key = (operation(case).to_string(), number_of(&fast));
+        *came.entry(key).or_default() += 1;
+    }
+    let missing = missing(&came);
+    for line in &missing {
+        println!("{line}");
+    }
+    println!("{cases} cases of the implementation written for speed, {differ} differ");
+    ExitCode::from(u8::from(cases == 0 || differ > 0 || !missing.is_empty()))
+}
+
+/// The number of a refusal, 0 for a success.
+fn number_of(answer: &str) -> u32 {
+    let refused = answer.strip_prefix("refused ");
+    let number = refused.and_then(|rest| rest.split(' ').next()?.parse().ok());
+    number.unwrap_or(0)
+}
+
+/// What never came.
+fn missing(came: &BTreeMap<(String, u32), u64>) -> Vec<String> {
+    let mut missing = Vec::new();
+    for name in BOTH {
+        let of_it = |refused: bool| {
+            came.keys()
+                .any(|(other, number)| other == name && refused == (*number > 0))
+        };
+        if !of_it(false) {
+            missing.push(format!("{name} never succeeded"));
+        }
+        if !of_it(true) && name != "run" {
+            missing.push(format!("{name} never refused"));
+        }
+    }
+    for number in 1..=LAST_NUMBER {
+        if !came.keys().any(|(_, other)| *other == number) {
+            missing.push(format!("no case gave {number}"));
+        }
+    }
+    missing
+}
+
+// ---- The answers ----
+
+/// What the implementation written for speed answers to a case; none where it cannot be read.
+fn fast_answer(case: &str) -> Option<String> {
+    let words: Vec<&str> = case.split_whitespace().collect();
+    match words[..] {
+        ["check1", image] => check_answer(image, |image| told(fast::check_timetable(image))),
+        ["check2", image] => check_answer(image, |image| {
+            let checked = fast::check_tables(image);
+            let other = unlimited::check_tables(image);
+            assert_eq!(checked, other, "with and without limits: {case}");
+            told(checked)
+        }),
+        ["derive", room, image] => turn_answer(room, image, |room, image| {
+            turned(room, |out| fast::derive(image, out))
+        }),
+        ["rebuild", room, image] => turn_answer(room, image, |room, image| {
+            turned(room, |out| fast::rebuild(image, out))
+        }),
+        ["begin", image] => bytes_from(image).map(|image| step_text(&begin(&image))),
+        ["go", image, state, end] => go_answer(image, state, end, go_on),
+        ["run", steps, image] => run_answer(steps, image, begin, go_on),
+        _ => None,
+    }
+}
+
+fn told<T>(answer: Result<T, fast::Refusal>) -> Result<T, Refusal> {
+    answer.map_err(|fast::Refusal { number, place }| Refusal { number, place })
+}
+
+/// The result in an output of so many bytes, which has to keep the bytes behind it, and all of them
+/// on a refusal.
+fn turned(
+    room: usize,
+    turn: impl FnOnce(&mut [u8]) -> Result<usize, fast::Refusal>,
+) -> Result<Vec<u8>, Refusal> {
+    let mut out = vec![FILLING; room];
+    let answer = told(turn(&mut out));
+    let written = answer.unwrap_or(0);
+    let kept = out[written..].iter().all(|byte| *byte == FILLING);
+    assert!(kept, "written behind the result, or on a refusal");
+    out.truncate(written);
+    answer.map(|_| out)
+}
+
+fn begin(image: &[u8]) -> Step {
+    let mut state = [1; NUMBERS];
+    let answer = told(dispatcher::begin(&mut state, image));
+    (state, answer)
+}
+
+fn go_on(image: &[u8], before: &State, end: u64) -> Step {
+    let mut state = *before;
+    let answer = dispatcher::go_on(&mut state, image, end);
+    let place = 0;
+    (state, answer.map_err(|number| Refusal { number, place }))
+}
