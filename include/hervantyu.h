@@ -68,8 +68,9 @@ uint32_t hv_rebuild(const uint8_t *HV_RESTRICT image, size_t len, uint8_t *HV_RE
 
 /* The state of a dispatcher: one record, kept by the drive's main loop and changed in place by every call. The stopped state has every number 0. Slots from n
  * up begin at 0, change no start and pass on as they are. The numbers have the processor's own byte order: the record is not for storage, nor for another
- * processor. Between calls it may be moved. Later editions add numbers at the end. */
-#define HV_DISPATCHER_NUMBERS 119
+ * processor. Between calls it may be moved. Later editions add numbers. */
+#define HV_SET_NUMBERS (1 + 16 * 4)                     /* n, and O, C, T, D of sixteen tasks: the record begins with them */
+#define HV_DISPATCHER_NUMBERS (HV_SET_NUMBERS + 16 + 4 + 17 + 17)
 
 struct hv_dispatcher {
     uint32_t n;

@@ -54,8 +54,19 @@ pub type Turn = unsafe extern "C" fn(*const u8, usize, *mut u8, usize, *mut u64,
 /// The tasks that a set in memory has room for.
 pub const SLOTS: usize = 16;
 
-/// The numbers of a dispatcher's state.
-pub const NUMBERS: usize = 119;
+/// The numbers of a task: O, C, T and D.
+pub const TASK_NUMBERS: usize = 4;
+
+/// Where the parts of a dispatcher's state begin among its numbers, in the header's order: the tasks
+/// behind n, the next jobs, the cycle, the running job's three, the offsets now and as at a cycle's
+/// start, of which the ID offset is the first; and how many numbers there are.
+pub const TASKS: usize = 1;
+pub const NEXT: usize = TASKS + TASK_NUMBERS * SLOTS;
+pub const CYCLE: usize = NEXT + SLOTS;
+pub const RUNNING: usize = CYCLE + 1;
+pub const NOW: usize = RUNNING + 3;
+pub const AT_START: usize = NOW + 1 + SLOTS;
+pub const NUMBERS: usize = AT_START + 1 + SLOTS;
 
 #[derive(Clone, Copy, PartialEq, Eq, Debug)]
 pub struct Refusal {
@@ -200,11 +211,11 @@ fn turn(case: &dyn Display, function: Turn, room: usize, image: &[u8]) -> Result
     })
 }
 
-/// The 64 numbers of a set in memory, filling behind the given tasks and the first n.
+/// The numbers of a set in memory, filling behind the given tasks and the first n.
 fn slots(n: u32, tasks: &[[u32; 4]], filling: u8) -> Vec<u32> {
     let mut numbers = tasks.concat();
-    numbers.resize(numbers.len().max(4 * SLOTS.min(n as usize)), 0);
-    numbers.resize(4 * SLOTS, u32::of(filling));
+    numbers.resize(numbers.len().max(TASK_NUMBERS * SLOTS.min(n as usize)), 0);
+    numbers.resize(TASK_NUMBERS * SLOTS, u32::of(filling));
     numbers
 }
 

@@ -41,6 +41,9 @@ fn main() {
         let [set, times] = [set, times].map(|number| number.parse().expect("a number"));
         return repeat(call, side == "archive", set, times);
     }
+    if asked == ["learnt"] {
+        return learnt();
+    }
     println!(
         "archive/fast  call    tasks  jobs idles  inversions  bytes  archive ns   fast ns  \
          unlimited ns"
@@ -97,6 +100,77 @@ fn repeat(call: &str, archive: bool, set: usize, times: usize) {
     for _ in 0..times {
         assert!(black_box(ask()), "a call that was good is refused");
     }
+}
+
+// ---- What a processor learns of an image ----
+
+/// Deriving with 16 tasks, over images in turn: of one short image that is asked again and again a
+/// processor learns every branch, of many or of a long one it does not. The last images are as many
+/// and as long as the longest, but each period of each is like the first.
+fn learnt() {
+    println!("jobs  images  archive ns a job  fast ns a job");
+    for (set, counts) in [(3, &[1, 4, 16, 64][..]), (4, &[1, 4, 16]), (5, &[1, 4])] {
+        for count in counts {
+            let tasks = tasks_of(&mut Chance::new(SEED), SETS[set]);
+            let seeds = (0..*count).map(|image| SEED + 1 + image);
+            let entries = seeds.map(|seed| timetable(&mut Chance::new(seed), &tasks));
+            let images: Vec<Vec<u8>> = entries.map(|all| image_of(&tasks, &all)).collect();
+            print_times(&tasks, &images);
+        }
+    }
+    let tasks = tasks_of(&mut Chance::new(SEED), SETS[5]);
+    println!("each period like the first:");
+    let image = image_of(&tasks, &like_the_first(&tasks));
+    for count in [1, 4] {
+        print_times(&tasks, &vec![image.clone(); count]);
+    }
+}
+
+/// A timetable in which the tasks but the last start in each period as in the first; the last has the
+/// first gap that is long enough.
+fn like_the_first(tasks: &[[u32; 4]]) -> Vec<(usize, u32)> {
+    let (last, others) = tasks.split_last().expect("there are tasks");
+    let period = others[0][2];
+    let first = timetable(&mut Chance::new(SEED + 1), others);
+    let mut entries: Vec<(usize, u32)> = (0..last[2] / period)
+        .flat_map(|k| {
+            first
+                .iter()
+                .map(move |(task, start)| (*task, start + k * period))
+        })
+        .collect();
+    let end = |(task, start): (usize, u32)| start + tasks[task][1];
+    let fits = |at: &usize| {
+        let start = end(entries[*at]);
+        start >= last[0] && start + last[1] <= entries[at + 1].1
+    };
+    let at = (0..entries.len() - 1).find(fits).expect("there is a gap");
+    entries.insert(at + 1, (others.len(), end(entries[at])));
+    entries
+}
+
+/// The times of deriving, for each job of the images.
+fn print_times(tasks: &[[u32; 4]], images: &[Vec<u8>]) {
+    let (mut one, mut other) = (vec![0; ROOM], vec![0; ROOM]);
+    let all = |mut derive: Box<dyn FnMut(&[u8]) -> bool>| -> Call {
+        Box::new(move || images.iter().all(|image| derive(black_box(image))))
+    };
+    let times = side_by_side(vec![
+        all(Box::new(move |image| {
+            TIMETABLES.turn(image, &mut one).is_ok()
+        })),
+        all(Box::new(move |image| {
+            fast::derive(image, &mut other).is_ok()
+        })),
+    ]);
+    let periods = tasks.iter().map(|task| task[2]);
+    let hyperperiod = periods.clone().fold(1, common_multiple);
+    let jobs: u32 = periods.map(|period| hyperperiod / period).sum();
+    let [archive, fast] = [0, 1].map(|side| times[side] / (images.len() * jobs as usize) as f64);
+    println!(
+        "{jobs:>4}  {:>6}  {archive:>16.1}  {fast:>13.1}",
+        images.len()
+    );
 }
 
 /// The last of the times is there only for accepting.

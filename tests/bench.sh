@@ -5,6 +5,7 @@
 # by 16 bytes each time, and the other implementation is compiled with its branches off those
 # boundaries. Each program is run twice, and the least time of each side counts: what else runs on the
 # machine only adds to a time. HV_ARCHIVE names another archive than the repository's own.
+# With `learnt` as its argument it times deriving over one image and over many in turn, linked once.
 # With `instructions` as its argument it counts those executed instead, into which neither the processor
 # nor what else it does comes: an emulator (Debian's qemu-user) runs the program and a plugin counts.
 set -eu
@@ -46,6 +47,13 @@ fi
 branches="-C llvm-args=-x86-branches-within-32B-boundaries"
 if test -n "${HV_NATIVE:-}" && test "$(uname -m)" != x86_64; then
     branches=
+fi
+
+if test "${1:-}" = learnt; then
+    # Unquoted: one word for each of the compiler's.
+    compile_rust --edition 2021 -O -D warnings -C codegen-units=1 $branches -C link-arg="$archive" -o "$built/bench" "$tests/bench.rs"
+    run "$built/bench" learnt
+    exit
 fi
 
 for moved in 16 32 48 64; do

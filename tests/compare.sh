@@ -9,4 +9,5 @@ tests=$(cd "$(dirname "$0")" && pwd)
 . "$tests/compare/build.sh"
 build_comparer
 build_second "$tests"
+build_compare
 run "$built/compare" "${1:-1}" "${2:-1000000}" ${3:+"$3"}

@@ -7,8 +7,8 @@ use crate::asking::Asking;
 use crate::damage::recount;
 use crate::form::image_text;
 use crate::independent::{
-    encode, irregularities, judge_set, table_records, timetable_records, Entry, Idle, Inversion,
-    Record, Set, Tables, Task,
+    encode, irregularities, table_records, timetable_records, Entry, Idle, Inversion, Record, Set,
+    Tables, Task, TODAY,
 };
 use std::collections::BTreeMap;
 
@@ -55,7 +55,9 @@ fn set_of(tasks: &[[u64; 4]]) -> Set {
             deadline,
         })
         .collect();
-    judge_set(tasks.len() as u64, &tasks).expect("the set is good")
+    TODAY
+        .judge_set(tasks.len() as u64, &tasks)
+        .expect("the set is good")
 }
 
 /// Asks about every list of ID and PV records that keep their rule.

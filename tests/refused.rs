@@ -12,10 +12,13 @@ mod faces;
 #[allow(dead_code)]
 #[path = "independent/independent.rs"]
 mod independent;
+#[allow(dead_code)]
+#[path = "independent/landed.rs"]
+mod landed;
 #[path = "refused/pages.rs"]
 mod pages;
 
-use archive::{Refusal, State};
+use archive::{Refusal, State, AT_START, CYCLE, NEXT, NOW, RUNNING, TASKS, TASK_NUMBERS};
 use faces::{Archive, Face, Independent, Kind};
 use std::collections::BTreeSet;
 use std::fs;
@@ -173,7 +176,7 @@ fn state_of(face: &dyn Face, root: &Path, case: &Case) -> Result<State, String> 
         let Ok([task, .., time]) = given else {
             return Err(format!("refused before those starts: {}", case.line));
         };
-        let declared = state[place_of("tasks").unwrap_or(0) + 4 * task as usize + 1];
+        let declared = state[TASKS + TASK_NUMBERS * task as usize + 1];
         (state, given) = face.go_on(&image, &state, time + u64::from(declared));
     }
     for (name, value) in &case.settings {
@@ -185,7 +188,7 @@ fn state_of(face: &dyn Face, root: &Path, case: &Case) -> Result<State, String> 
     Ok(state)
 }
 
-/// Where a number of `struct hv_dispatcher` stands among the 119, by the header's name for it.
+/// Where a number of `struct hv_dispatcher` stands among the record's, by the header's name for it.
 pub fn place_of(name: &str) -> Option<usize> {
     let (name, slot) = match name.split_once('[') {
         Some((name, slot)) => (name, slot.strip_suffix(']')?.parse().ok()?),
@@ -193,16 +196,16 @@ pub fn place_of(name: &str) -> Option<usize> {
     };
     let first = match name {
         "n" => 0,
-        "tasks" => 1,
-        "next_jobs" => 65,
-        "cycle" => 81,
-        "running_task" => 82,
-        "running_job" => 83,
-        "running_start" => 84,
-        "id_offset" => 85,
-        "pv_offsets" => 86,
-        "id_offset_at_start" => 102,
-        "pv_offsets_at_start" => 103,
+        "tasks" => TASKS,
+        "next_jobs" => NEXT,
+        "cycle" => CYCLE,
+        "running_task" => RUNNING,
+        "running_job" => RUNNING + 1,
+        "running_start" => RUNNING + 2,
+        "id_offset" => NOW,
+        "pv_offsets" => NOW + 1,
+        "id_offset_at_start" => AT_START,
+        "pv_offsets_at_start" => AT_START + 1,
         _ => return None,
     };
     Some(first + slot)

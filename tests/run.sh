@@ -1,31 +1,44 @@
 #!/bin/sh
-# Runs the archive against the stored cases, beside the implementation written for speed, from C, and
-# against the independent implementation over fixed cases, random cases and every image of some small
-# sets. The last line says whether the cases of 4 GiB were run. HV_ARCHIVE names another archive than the
-# repository's own.
+# Runs the archive against the stored cases whose stage has landed, beside the implementation written for
+# speed, from C, and against the independent implementation over fixed cases, random cases and every image
+# of some small sets. The last line says whether the cases of 4 GiB were run. HV_ARCHIVE names another
+# archive than the repository's own.
 set -eu
 
 tests=$(cd "$(dirname "$0")" && pwd)
-archive=${HV_ARCHIVE:-$tests/../target/staticlib/libhervantyu.a}
-test -f "$archive" || { echo "no archive at $archive" >&2; exit 1; }
-. "$tests/host.sh"
-built=$(mktemp -d)
-trap 'rm -rf "$built"' EXIT
+. "$tests/compare/build.sh"
 
 # Builds a Rust program of this folder with the archive.
 build() {
     compile_rust --edition 2021 -O -D warnings -C link-arg="$archive" -o "$built/$1" "$tests/$1.rs"
 }
 
+build_second "$tests"
+build_stored
+run "$built/stored" "$tests"/cases/*.txt >"$built/cases"
+
+# Refused: a file that says no stage, one that says a landing which the order does not have, and a stored
+# answer that is wrong at its own stage.
+echo 'set 1 0,1,1,1 => ok 1 1' | tee "$built/unstaged.txt" >"$built/02-R-9.txt"
+echo 'set 1 0,1,1,1 => ok 1 2' >"$built/base-wrong.txt"
+for refused in unstaged 02-R-9 base-wrong; do
+    if run "$built/stored" "$built/$refused.txt" >"$built/printed" 2>&1; then
+        echo "$refused.txt: not refused" >&2
+        exit 1
+    fi
+done
+
 build answers
-cat "$tests"/cases/*.txt | run "$built/answers" --compare
+run "$built/answers" --compare <"$built/cases"
 
 build fast_answers
-cat "$tests"/cases/*.txt | run "$built/fast_answers"
+run "$built/fast_answers" <"$built/cases"
 
 for program in desk drive; do
     compile_c -std=c11 -Wall -Wextra -Werror -O2 -I "$tests/../include" -o "$built/$program" "$tests/c/$program.c" "$archive"
     run "$built/$program"
 done
 
-HV_ARCHIVE=$archive "$tests/compare.sh" 1 600000
+build_comparer
+build_compare
+run "$built/compare" 1 600000

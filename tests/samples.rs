@@ -4,10 +4,13 @@
 #[allow(dead_code)]
 #[path = "independent/independent.rs"]
 mod independent;
+#[allow(dead_code)]
+#[path = "independent/landed.rs"]
+mod landed;
 
 use independent::{
-    encode, instant_with_waiting, irregularities, judge_set, waiting, Entry, Idle, Inversion,
-    Record, Set, Task, TABLES, TIMETABLE,
+    encode, instant_with_waiting, irregularities, waiting, Entry, Idle, Inversion, Record, Set,
+    Task, TABLES, TIMETABLE, TODAY,
 };
 use std::fs;
 use std::path::Path;
@@ -242,7 +245,9 @@ fn drive_timetable() -> Vec<(usize, u64)> {
 
 fn drive_set() -> Set {
     let tasks: Vec<Task> = DRIVE.iter().map(task_of).collect();
-    judge_set(tasks.len() as u64, &tasks).expect("the set is good")
+    TODAY
+        .judge_set(tasks.len() as u64, &tasks)
+        .expect("the set is good")
 }
 
 fn drive_tables(entries: &[(usize, u64)]) -> Vec<u8> {

@@ -37,6 +37,7 @@ for edit in "$@"; do
     file=$copy/independent/$(sed -n 's/^file: //p' "$edit")
     plant "$file" "$(sed -n 's/^old: //p' "$edit")" "$(sed -n 's/^new: //p' "$edit")"
     build_second "$copy" --cap-lints allow
+    build_compare
     found=$(run "$built/compare" 1 "$cases" 1 2>/dev/null | tail -n 1)
     case $found in
         *" cases, 1 differ") ;;

@@ -1,9 +1,10 @@
 #!/bin/sh
 # Reads the stack that each function of the header takes off the archive's instructions, and prints a row
 # for each: its bytes, its limit and its deepest chain of calls. Fails where one is above its limit, where
-# docs/PERFORMANCE.md has other rows, and where it cannot tell: a call through a pointer, a function that
-# comes to call itself, a stack pointer that is moved in another way than by a constant. What memcpy and
-# memset take is the machine's own and not counted. HV_ARCHIVE names another archive for x86-64.
+# docs/PERFORMANCE.md has other rows, and where it cannot tell: a call through a pointer, a jump through one
+# that is no compiler's table of a match, a function that comes to call itself, a stack pointer that is moved
+# in another way than by a constant. What memcpy and memset take is the machine's own and not counted.
+# HV_ARCHIVE names another archive for x86-64.
 set -eu
 
 tests=$(cd "$(dirname "$0")" && pwd)
@@ -99,19 +100,39 @@ awk '
             fail(name ": two depths of the stack at " place)
     }
 
+    # Is a jump through a register one by a table of distances: read from the table, added to its address?
+    function by_table(i,    register) {
+        register = line[name, i]
+        sub(/^.*\*/, "", register)
+        return register ~ /^%r[a-z0-9]+$/ \
+            && line[name, i - 1] ~ ("^add +%r[a-z0-9]+," register "$") \
+            && line[name, i - 2] ~ ("^movslq +\\(%r[a-z0-9]+,%r[a-z0-9]+,4\\)," register "$")
+    }
+
+    # What a table leads to: each place that nothing else leads to, with the depth at the jump.
+    function from_table(    i) {
+        for (i = 2; i <= lines[name]; i++)
+            if (!((name, at[name, i]) in depth) && line[name, i - 1] ~ /^(jmp|ret|ud2)/ && line[name, i] !~ /nop|^xchg +%ax,%ax|^int3/)
+                known(at[name, i], table_depth)
+    }
+
     # The depth of the stack at every instruction of a function, from its first one on, along every jump.
     function follow(    i, text, deep, to) {
         depth[name, at[name, 1]] = 8
+        table_depth = 0
         do {
             news = 0
+            if (table_depth) from_table()
             for (i = 1; i <= lines[name]; i++) {
                 if (!((name, at[name, i]) in depth)) continue
                 text = line[name, i]
                 deep = depth[name, at[name, i]] + moved(text)
                 if (text ~ /^j/ && !((name, i) in calls)) {
                     split(text, part, " ")
-                    if (part[2] !~ /^[0-9a-f]+$/) fail(name ": a jump through a pointer: " text)
-                    else known(part[2], deep)
+                    if (part[2] ~ /^[0-9a-f]+$/) known(part[2], deep)
+                    else if (!by_table(i)) fail(name ": a jump through a pointer: " text)
+                    else if (!table_depth) news = table_depth = deep
+                    else if (table_depth != deep) fail(name ": tables at two depths of the stack")
                 }
                 if (text !~ /^(jmp|ret|ud2)/ && i < lines[name]) known(at[name, i + 1], deep)
             }

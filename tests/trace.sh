@@ -23,7 +23,7 @@ contracts() {
 }
 
 names() {
-    awk -v cases=tests/cases/trace.txt -v decisions=docs/DECISIONS.md '
+    awk -v cases=tests/cases/base-trace.txt -v decisions=docs/DECISIONS.md '
         function fail(what) {
             print "docs/TRACE.md:" NR ": " what
             failed = 1

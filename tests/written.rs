@@ -2,7 +2,7 @@
 
 use crate::archive::{
     begin, check_tables, check_timetable, derive, go_on, judge_set, rebuild, Refusal, Start, State,
-    Step, SLOTS,
+    Step, SLOTS, TASKS, TASK_NUMBERS,
 };
 
 /// The operations that the archive has.
@@ -114,7 +114,7 @@ pub fn run_answer(
             break;
         };
         let [task, .., time] = start;
-        let declared = state[2 + 4 * (task as usize % SLOTS)];
+        let declared = state[TASKS + TASK_NUMBERS * (task as usize % SLOTS) + 1];
         step = go_on(&image, &state, time + u64::from(declared));
         told.push(answer_text(&step.1));
     }

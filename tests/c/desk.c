@@ -5,7 +5,7 @@
 #include <stdio.h>
 #include <string.h>
 
-enum { GUARD = 16, MOST = 256 };
+enum { GUARD = 16, MOST = 256, SET_NUMBERS = 64 };
 
 static unsigned checks, failed;
 static unsigned char filling;
@@ -122,7 +122,7 @@ static void expect_turn(const char *example, const struct kind *kind, const stru
 static void expect_judge(const char *example, uint32_t n, const uint32_t (*tasks)[4], uint32_t number, uint32_t hyperperiod, uint32_t jobs)
 {
     struct {
-        uint32_t guard, now[64], behind;
+        uint32_t guard, now[SET_NUMBERS], behind;
     } lent, before;
     struct wide stored = lend_wide();
     struct word h = lend_word(), j = lend_word();

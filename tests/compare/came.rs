@@ -71,7 +71,8 @@ impl Came {
             "number",
             ["all".to_string()].into_iter().chain(heads).collect(),
         );
-        for number in 0..=25 {
+        let last = NUMBERS.iter().flat_map(|(_, numbers)| numbers.iter()).max();
+        for number in 0..=*last.expect("an operation gives numbers") {
             let each = NUMBERS.iter().map(|(operation, _)| cell(operation, number));
             let all = std::iter::once(self.all(number));
             row(&number.to_string(), all.chain(each).collect());

@@ -44,6 +44,9 @@ mod form;
 mod independent;
 #[path = "../independent/journeys.rs"]
 mod journeys;
+#[allow(dead_code)]
+#[path = "../independent/landed.rs"]
+mod landed;
 #[path = "../independent/rides.rs"]
 mod rides;
 #[path = "../independent/sets.rs"]

@@ -2,10 +2,10 @@
 //! the stopped one, jobs that are right only in 32 bits; and those of the modules named here.
 
 use crate::damage::{id, recount};
-use crate::dispatcher::{begin, go_on, State, NUMBERS};
+use crate::dispatcher::{State, NUMBERS};
 use crate::form::image_text;
 use crate::images::{records_of, right_room};
-use crate::independent::{encode, judge_set, Entry, Set, Task, TABLES, TIMETABLE};
+use crate::independent::{encode, Entry, Set, Task, TABLES, TIMETABLE, TODAY};
 use crate::sweeps::{go, running_start};
 use crate::{large, limits, orders};
 
@@ -42,7 +42,9 @@ pub fn task(offset: u64, time: u64, period: u64, deadline: u64) -> Task {
 }
 
 pub fn set_of(tasks: &[Task]) -> Set {
-    judge_set(tasks.len() as u64, tasks).expect("the set is good")
+    TODAY
+        .judge_set(tasks.len() as u64, tasks)
+        .expect("the set is good")
 }
 
 /// The five operations on an image, with the rooms that are wanted.
@@ -121,7 +123,7 @@ fn nearly_stopped() -> Vec<String> {
 fn cycles_by_hand() -> Vec<String> {
     let (set, entries) = by_hand();
     let image = encode(&records_of(&set, &entries, TABLES));
-    let (mut state, _) = begin(&image);
+    let (mut state, _) = TODAY.begin(&image);
     let mut cases = Vec::new();
     for _ in 0..=2 * entries.len() {
         let start = running_start(&set, &state);
@@ -135,7 +137,7 @@ fn cycles_by_hand() -> Vec<String> {
             changed[at] = changed[at].wrapping_add(1);
             cases.push(go(&changed, &state, latest));
         }
-        state = go_on(&image, &state, latest).0;
+        state = TODAY.go_on(&image, &state, latest).0;
     }
     cases
 }
@@ -147,7 +149,7 @@ fn far_jobs() -> Vec<String> {
         let task = task(0, time, period, period);
         let set = set_of(&[task]);
         let image = encode(&records_of(&set, &[Entry { task: 0, start: 0 }], TABLES));
-        let (begun, _) = begin(&image);
+        let (begun, _) = TODAY.begin(&image);
         for job in [MOST, MOST / period, (1 << 32) / period] {
             for start in [MOST, task.release(job) % (1 << 32), 0] {
                 for next in [0, 1, (job + 1) % (1 << 32)] {

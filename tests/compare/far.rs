@@ -3,7 +3,7 @@
 //! memory that is nearly all never touched. What is expected is written here by hand. Only on a
 //! machine that has no such memory may these cases be left out, and then the report says so.
 
-use crate::archive::{hv_go_on, NUMBERS};
+use crate::archive::{hv_go_on, NEXT, NOW, NUMBERS, TASKS};
 use crate::asking::Asking;
 use std::alloc::{alloc_zeroed, dealloc, Layout};
 
@@ -17,8 +17,8 @@ const ID: &[u8] = b"ID\x00\x00\x00\x07\x00\x01";
 const EN: &[u8] = b"EN\x00\x00\x00\x00";
 
 /// The places in the state: ID offset, and task 1's PV offset.
-const IDLE: usize = 85;
-const OF_TASK_1: usize = 87;
+const IDLE: usize = NOW;
+const OF_TASK_1: usize = NOW + 2;
 
 /// The cases that there are.
 pub const CASES: u64 = 10;
@@ -111,7 +111,7 @@ fn available() -> Option<u64> {
 fn state() -> [u32; NUMBERS] {
     let mut state = [0; NUMBERS];
     state[0] = 2;
-    state[1..9].copy_from_slice(&[0, 1, 10, 10, 0, 1, 10, 10]);
-    state[65] = 1;
+    state[TASKS..][..8].copy_from_slice(&[0, 1, 10, 10, 0, 1, 10, 10]);
+    state[NEXT] = 1;
     state
 }

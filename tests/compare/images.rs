@@ -8,8 +8,8 @@ use crate::damage::{
 };
 use crate::form::image_text;
 use crate::independent::{
-    derive, encode, irregularities, rebuild, record_length, table_records, timetable_records,
-    Entry, Record, Set, TABLES, TIMETABLE,
+    encode, irregularities, record_length, table_records, timetable_records, Entry, Record, Set,
+    TABLES, TIMETABLE, TODAY,
 };
 use crate::shapes::some_timetable;
 
@@ -123,9 +123,9 @@ pub fn asked(chance: &mut Chance, image: &[u8], kind: u64) -> Vec<String> {
 /// The length of the result, that of the image where there is none.
 pub fn right_room(image: &[u8], kind: u64) -> u64 {
     let result = if kind == TIMETABLE {
-        derive(image, u64::MAX)
+        TODAY.derive(image, u64::MAX)
     } else {
-        rebuild(image, u64::MAX)
+        TODAY.rebuild(image, u64::MAX)
     };
     result.map_or(image.len(), |result| result.len()) as u64
 }

@@ -2,11 +2,11 @@
 //! bytes can count.
 
 use crate::damage::{pv, sl};
-use crate::dispatcher::{begin, go_on, SLOTS};
+use crate::dispatcher::SLOTS;
 use crate::edges::{all_operations, set_of, task};
 use crate::form::image_text;
 use crate::images::records_of;
-use crate::independent::{encode, Entry, Record, Set, TABLES, TIMETABLE};
+use crate::independent::{encode, Entry, Record, Set, TABLES, TIMETABLE, TODAY};
 use crate::sweeps::{go, running_start};
 
 /// 4,096 jobs, each of which starts one late, in an order that inverts nearly all of them.
@@ -35,14 +35,14 @@ pub fn most_irregularities() -> Vec<String> {
 
 /// The calls about the end of a cycle of a large image.
 fn last_calls(set: &Set, image: &[u8]) -> Vec<String> {
-    let (mut state, _) = begin(image);
+    let (mut state, _) = TODAY.begin(image);
     let mut cases = Vec::new();
     for call in 0..set.all_jobs() + 3 {
         let end = running_start(set, &state) + 1;
         if call % 512 == 0 || call + 6 > set.all_jobs() {
             cases.push(go(image, &state, end));
         }
-        state = go_on(image, &state, end).0;
+        state = TODAY.go_on(image, &state, end).0;
     }
     cases
 }

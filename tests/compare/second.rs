@@ -1,7 +1,8 @@
-//! The second opinion: what the independent implementation answers to a case in its written form.
-//! It is a crate of its own and meets the generators of cases only through that form, so that a
-//! slip in it changes answers and not what is asked.
+//! The second opinion: what the independent implementation answers to a case in its written form, at
+//! any stage. It is a crate of its own and meets the generators of cases only through that form, so
+//! that a slip in it changes answers and not what is asked.
 
+#[allow(dead_code)]
 #[path = "../independent/dispatcher.rs"]
 mod dispatcher;
 #[allow(dead_code)]
@@ -10,69 +11,89 @@ mod form;
 #[allow(dead_code)]
 #[path = "../independent/independent.rs"]
 mod independent;
+#[path = "../independent/landed.rs"]
+pub mod landed;
 
-use dispatcher::{begin, go_on, Start, SLOTS};
-use form::{image_from, image_text, refusal_text, state_from, step_text, task_from};
-use independent::{Refusal, Task};
+use dispatcher::{Start, SLOTS};
+use form::{image_from, image_text, task_from};
+use independent::{Refusal, Rules, Task};
+use landed::Landed;
 
-/// The answer to a case; none where the case cannot be read.
-pub fn answer(case: &str) -> Option<String> {
+/// The answer to a case with these requests landed; none where the case cannot be read.
+pub fn answer(landed: Landed, case: &str) -> Option<String> {
+    let rules = Rules { landed };
     let words: Vec<&str> = case.split_whitespace().collect();
     match words[..] {
-        ["set", n, ref tasks @ ..] => set_answer(n, tasks),
-        ["check1", image] => check_answer(independent::check_timetable(&image_from(image)?)),
-        ["check2", image] => check_answer(independent::check_tables(&image_from(image)?)),
+        ["set", n, ref tasks @ ..] => set_answer(rules, n, tasks),
+        ["check1", image] => check_answer(rules, rules.check_timetable(&image_from(image)?)),
+        ["check2", image] => check_answer(rules, rules.check_tables(&image_from(image)?)),
         ["derive", room, image] => {
-            turn_answer(independent::derive(&image_from(image)?, room.parse().ok()?))
+            let derived = rules.derive(&image_from(image)?, room.parse().ok()?);
+            turn_answer(rules, derived)
         }
-        ["rebuild", room, image] => turn_answer(independent::rebuild(
-            &image_from(image)?,
-            room.parse().ok()?,
-        )),
-        ["begin", image] => Some(step_text(&begin(&image_from(image)?))),
+        ["rebuild", room, image] => {
+            let rebuilt = rules.rebuild(&image_from(image)?, room.parse().ok()?);
+            turn_answer(rules, rebuilt)
+        }
+        ["list", image] => Some(rules.listing(&image_from(image)?).join("|")),
+        ["begin", image] => Some(rules.step_text(&rules.begin(&image_from(image)?))),
         ["go", image, state, end] => {
-            let (image, state) = (image_from(image)?, state_from(state)?);
-            Some(step_text(&go_on(&image, &state, end.parse().ok()?)))
+            let (image, state) = (image_from(image)?, rules.state_from(state)?);
+            Some(rules.step_text(&rules.go_on(&image, &state, end.parse().ok()?)))
         }
-        ["run", steps, image] => run_answer(steps.parse().ok()?, &image_from(image)?),
+        ["run", steps, image] => run_answer(rules, steps.parse().ok()?, &image_from(image)?),
         _ => None,
     }
 }
 
-fn set_answer(n: &str, tasks: &[&str]) -> Option<String> {
+/// A case of one stage as it is written at another: a state has other numbers there, those that are
+/// new to it being what they are where nothing is said of them. None where the case cannot be read.
+pub fn carried(from: Landed, to: Landed, case: &str) -> Option<String> {
+    let [from, to] = [from, to].map(|landed| Rules { landed });
+    let words: Vec<&str> = case.split_whitespace().collect();
+    match words[..] {
+        ["go", image, state, end] => {
+            let state = to.state_text(&from.state_from(state)?);
+            Some(format!("go {image} {state} {end}"))
+        }
+        _ => Some(case.to_string()),
+    }
+}
+
+fn set_answer(rules: Rules, n: &str, tasks: &[&str]) -> Option<String> {
     let mut slots: Vec<Task> = tasks
         .iter()
         .map(|task| task_from(task))
         .collect::<Option<_>>()?;
     slots.resize(SLOTS, Task::default());
-    Some(match independent::judge_set(n.parse().ok()?, &slots) {
+    Some(match rules.judge_set(n.parse().ok()?, &slots) {
         Ok(set) => format!("ok {} {}", set.hyperperiod, set.all_jobs()),
-        Err(refusal) => refusal_text(refusal),
+        Err(refusal) => rules.refusal_text(refusal),
     })
 }
 
-fn check_answer<T>(answer: Result<T, Refusal>) -> Option<String> {
+fn check_answer<T>(rules: Rules, answer: Result<T, Refusal>) -> Option<String> {
     Some(match answer {
         Ok(_) => "ok".to_string(),
-        Err(refusal) => refusal_text(refusal),
+        Err(refusal) => rules.refusal_text(refusal),
     })
 }
 
-fn turn_answer(answer: Result<Vec<u8>, Refusal>) -> Option<String> {
+fn turn_answer(rules: Rules, answer: Result<Vec<u8>, Refusal>) -> Option<String> {
     Some(match answer {
         Ok(result) => format!("ok {} {}", result.len(), image_text(&result)),
-        Err(refusal) => refusal_text(refusal),
+        Err(refusal) => rules.refusal_text(refusal),
     })
 }
 
 /// A beginning and going on after it, each job reporting start + C; the first refusal ends the run.
-fn run_answer(steps: u64, image: &[u8]) -> Option<String> {
+fn run_answer(rules: Rules, steps: u64, image: &[u8]) -> Option<String> {
     let mut told = Vec::new();
-    let (mut state, mut answer) = begin(image);
+    let (mut state, mut answer) = rules.begin(image);
     for left in (0..steps).rev() {
         match answer {
             Err(refusal) => {
-                told.push(refusal_text(refusal));
+                told.push(rules.refusal_text(refusal));
                 break;
             }
             Ok(Start {
@@ -84,7 +105,7 @@ fn run_answer(steps: u64, image: &[u8]) -> Option<String> {
                 told.push(format!("{task} {job} {cycle} {time}"));
                 if left > 0 {
                     let end = time + state.tasks[task as usize].time;
-                    (state, answer) = go_on(image, &state, end);
+                    (state, answer) = rules.go_on(image, &state, end);
                 }
             }
         }

@@ -3,7 +3,7 @@
 //! the last instant that is in time, hundreds and thousands of jobs.
 
 use crate::chance::Chance;
-use crate::independent::{instant_with_waiting, judge_set, waiting, Entry, Set, Task};
+use crate::independent::{instant_with_waiting, waiting, Entry, Set, Task, TODAY};
 use crate::sets::{large_timetable, timetable};
 
 /// Periods with a hyperperiod at or next to the limit.
@@ -47,7 +47,7 @@ pub fn small_timetable(chance: &mut Chance) -> (Set, Vec<Entry>) {
 fn timetable_of(chance: &mut Chance, shape: fn(&mut Chance) -> Vec<Task>) -> (Set, Vec<Entry>) {
     loop {
         let tasks = shape(chance);
-        let Ok(set) = judge_set(tasks.len() as u64, &tasks) else {
+        let Ok(set) = TODAY.judge_set(tasks.len() as u64, &tasks) else {
             continue;
         };
         for restless in [2, 3, 5, 9, 0] {

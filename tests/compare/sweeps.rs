@@ -2,10 +2,10 @@
 
 use crate::chance::Chance;
 use crate::damage::{random_record, recount};
-use crate::dispatcher::{begin, go_on, State, NUMBERS};
-use crate::form::{image_text, state_text};
+use crate::dispatcher::{State, NUMBERS};
+use crate::form::image_text;
 use crate::images::{asked, records_of, right_room};
-use crate::independent::{encode, Record, Set, TABLES, TIMETABLE};
+use crate::independent::{encode, Record, Set, TABLES, TIMETABLE, TODAY};
 use crate::shapes::small_timetable;
 
 /// The cases of one sweep.
@@ -116,9 +116,9 @@ fn rooms(image: &[u8], kind: u64) -> Vec<String> {
 
 /// A state that dispatching reaches within three cycles, each end being the latest.
 pub fn reached(chance: &mut Chance, set: &Set, image: &[u8]) -> State {
-    let (mut state, _) = begin(image);
+    let (mut state, _) = TODAY.begin(image);
     for _ in 0..chance.below(3 * set.all_jobs()) {
-        state = go_on(image, &state, latest_end(set, &state)).0;
+        state = TODAY.go_on(image, &state, latest_end(set, &state)).0;
     }
     state
 }
@@ -153,7 +153,7 @@ fn numbers_and_ends(chance: &mut Chance, set: &Set, image: &[u8]) -> Vec<String>
         let number = state.numbers()[at];
         let most = u64::from(u32::MAX);
         for other in [0, 1, number + 1, number.saturating_sub(1), most] {
-            let mut numbers: [u64; NUMBERS] = state.numbers().try_into().expect("of a state");
+            let mut numbers = state.numbers();
             numbers[at] = other.min(most);
             cases.push(go(image, &State::from_numbers(&numbers), end));
         }
@@ -164,5 +164,5 @@ fn numbers_and_ends(chance: &mut Chance, set: &Set, image: &[u8]) -> Vec<String>
 }
 
 pub fn go(image: &[u8], state: &State, end: u64) -> String {
-    format!("go {} {} {end}", image_text(image), state_text(state))
+    format!("go {} {} {end}", image_text(image), TODAY.state_text(state))
 }

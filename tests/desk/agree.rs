@@ -50,6 +50,9 @@ mod form;
 #[path = "../independent/independent.rs"]
 mod independent;
 #[allow(dead_code)]
+#[path = "../independent/landed.rs"]
+mod landed;
+#[allow(dead_code)]
 #[path = "../independent/rides.rs"]
 mod rides;
 #[path = "../independent/sets.rs"]
@@ -63,6 +66,7 @@ mod words;
 use archive::{check, rebuild, Kind, Refusal};
 use chance::Chance;
 use form::image_from;
+use independent::TODAY;
 use records::{decode, kind_of, Set};
 use std::collections::BTreeMap;
 use std::fs;
@@ -191,7 +195,8 @@ fn hold_accepted(kind: Kind, image: &[u8]) {
     demand(same, image, "the replay is another timetable");
     let useless = about_tables::useless(&decoded, &told);
     demand(useless.is_empty(), image, "a record has no effect");
-    let lines: String = independent::listing(&tables)
+    let lines: String = TODAY
+        .listing(&tables)
         .iter()
         .map(|line| format!("{line}\n"))
         .collect();

@@ -3,7 +3,7 @@
 
 use crate::about_tables::useless;
 use crate::archive::{check, rebuild, Kind, Refusal};
-use crate::independent::{frame, judge_set, Record, Task};
+use crate::independent::{Record, Task, TODAY};
 use crate::records::{decode, Body, Image, Set};
 use crate::replay::replay;
 use crate::wording::{Broken, Explanation};
@@ -234,7 +234,9 @@ impl Case<'_> {
 
     /// 12 and 16: the task's entries, up to the place or all, are counted in another way; none can be put right.
     fn counted(&self, text: &str, by: i64) -> bool {
-        let records = frame(self.image, self.kind.number()).expect("framing comes before");
+        let records = TODAY
+            .frame(self.image, self.kind.number())
+            .expect("framing comes before");
         let tasks: Vec<Task> = records
             .iter()
             .filter_map(|record| match record {
@@ -242,7 +244,9 @@ impl Case<'_> {
                 _ => None,
             })
             .collect();
-        let set = judge_set(tasks.len() as u64, &tasks).expect("the set comes before");
+        let set = TODAY
+            .judge_set(tasks.len() as u64, &tasks)
+            .expect("the set comes before");
         let place = self.refusal.place as usize;
         let (task, last) = match (self.refusal.number, records.get(place)) {
             (12, Some(Record::Sl(entry))) => (entry.task, place + 1),

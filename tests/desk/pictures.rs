@@ -4,7 +4,7 @@
 use crate::archive::{derive, rebuild, Kind};
 use crate::demand;
 use crate::draw::picture;
-use crate::independent::{check_tables, Entry};
+use crate::independent::{Entry, TODAY};
 use crate::records::decode;
 use std::collections::{BTreeMap, BTreeSet};
 
@@ -50,7 +50,7 @@ fn titles(svg: &str) -> BTreeSet<String> {
 }
 
 fn expected_titles(tables: &[u8]) -> BTreeSet<String> {
-    let (set, tables, entries) = check_tables(tables).expect("an accepted image");
+    let (set, tables, entries) = TODAY.check_tables(tables).expect("an accepted image");
     let mut next = vec![0; set.tasks.len()];
     let mut titles = BTreeSet::new();
     for Entry { task, start } in entries {
@@ -80,7 +80,7 @@ fn marks(svg: &str) -> [usize; 2] {
 
 /// Each job has one release and one deadline.
 fn expected_marks(tables: &[u8]) -> [usize; 2] {
-    let (_, _, entries) = check_tables(tables).expect("an accepted image");
+    let (_, _, entries) = TODAY.check_tables(tables).expect("an accepted image");
     [entries.len(); 2]
 }
 

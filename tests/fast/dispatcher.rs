@@ -5,20 +5,13 @@ use super::{
     common_multiple, four, key_and_delay, replay, tables_of, Refusal, EN, ID, ID_MARK,
     MOST_HYPERPERIOD, MOST_JOBS, PV, PV_MARK, SLOTS, TK, TS,
 };
+use crate::archive::{AT_START, CYCLE, NEXT, NOW, NUMBERS, RUNNING, TASKS};
 
-/// A state: its numbers in the order of the archive's record.
-pub type State = [u32; 119];
+/// A state: its numbers in the order of the archive's record, and where its parts begin in it.
+pub type State = [u32; NUMBERS];
 
 /// A start: task, job, cycle and absolute time.
 pub type Start = [u64; 4];
-
-/// Where the parts of a state begin; the ID offset stands before those of the tasks.
-const TASKS: usize = 1;
-const NEXT: usize = 65;
-const CYCLE: usize = 81;
-const RUNNING: usize = 82;
-const NOW: usize = 85;
-const AT_START: usize = 102;
 
 /// The release of a task that has no job left.
 const NEVER: u32 = u32::MAX;

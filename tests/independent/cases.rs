@@ -6,10 +6,10 @@ use crate::damage::{
     spoil_end, truncate,
 };
 use crate::dispatcher::State;
-use crate::form::{image_text, state_text, task_text};
+use crate::form::{image_text, task_text};
 use crate::independent::{
-    derive, encode, irregularities, rebuild, table_records, timetable_records, Entry, Record, Set,
-    Task, LONGEST_LISTED, TABLES, TIMETABLE,
+    encode, irregularities, table_records, timetable_records, Entry, Record, Set, Task,
+    LONGEST_LISTED, TABLES, TIMETABLE, TODAY,
 };
 use crate::rides::{ride, Ride};
 use crate::sets::{bad_tasks, good_set, large_timetable, timetable};
@@ -161,11 +161,11 @@ fn finished(chance: &mut Chance, mut records: Vec<Record>, number: u64) -> Vec<u
 fn output_case(chance: &mut Chance, kind: u64) -> String {
     let (operation, image, result) = if kind == TIMETABLE {
         let image = timetable_image(chance);
-        let result = derive(&image, ANY_ROOM);
+        let result = TODAY.derive(&image, ANY_ROOM);
         ("derive", image, result)
     } else {
         let image = table_image(chance);
-        let result = rebuild(&image, ANY_ROOM);
+        let result = TODAY.rebuild(&image, ANY_ROOM);
         ("rebuild", image, result)
     };
     let right = result.map_or(image.len(), |result| result.len());
@@ -200,7 +200,7 @@ fn go_case(chance: &mut Chance) -> String {
 }
 
 pub fn go_text(image: &[u8], state: &State, end: u64) -> String {
-    format!("go {} {} {end}", image_text(image), state_text(state))
+    format!("go {} {} {end}", image_text(image), TODAY.state_text(state))
 }
 
 /// A run over an accepted image, mostly of two or three cycles.

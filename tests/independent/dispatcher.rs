@@ -1,13 +1,20 @@
 //! Document 01's dispatcher written down plainly a second time: its state, beginning and going on.
 
 use crate::independent::{
-    check_tables, decide, frame, front, idle_in_range, instant_with_waiting, inversion_in_range,
-    judge_set, record_length, refuse, Decision, Front, Idle, Inversion, Mark, Record, Refusal, Set,
-    Task, MOST_TASKS, TABLES,
+    decide, front, idle_in_range, instant_with_waiting, inversion_in_range, record_length, refuse,
+    Decision, Front, Idle, Inversion, Mark, Record, Refusal, Rules, Set, Task, MOST_TASKS, TABLES,
+    TODAY,
 };
 
 pub const SLOTS: usize = MOST_TASKS as usize;
-pub const NUMBERS: usize = 119;
+
+/// Where the cycle stands among today's numbers of a state, behind n, the tasks and the next jobs; the
+/// running job's three and the ID offset come after it.
+pub const CYCLE: usize = 1 + 4 * SLOTS + SLOTS;
+
+/// How many numbers a state has today: the offsets, now and as at a cycle's start, are the last.
+pub const NUMBERS: usize = CYCLE + 4 + 2 * (1 + SLOTS);
+
 pub const LAST_CYCLE: u64 = 4_294_967_295;
 const LAST_OFFSET: u64 = 4_294_967_295;
 
@@ -38,49 +45,78 @@ pub struct State {
     pub at_start: Offsets,
 }
 
-impl State {
-    /// The numbers of the state in the order in which it is shown.
-    pub fn numbers(&self) -> Vec<u64> {
-        let mut numbers = vec![self.n];
-        for task in &self.tasks {
+impl Rules {
+    /// The numbers of a state in the order in which it is shown.
+    pub fn numbers_of(&self, state: &State) -> Vec<u64> {
+        let mut numbers = vec![state.n];
+        for task in &state.tasks {
             numbers.extend([task.offset, task.time, task.period, task.deadline]);
         }
-        numbers.extend(self.next);
-        numbers.push(self.cycle);
-        numbers.extend([self.running.task, self.running.job, self.running.start]);
-        for offsets in [&self.now, &self.at_start] {
+        numbers.extend(state.next);
+        numbers.push(state.cycle);
+        numbers.extend([state.running.task, state.running.job, state.running.start]);
+        for offsets in [&state.now, &state.at_start] {
             numbers.push(offsets.idle);
             numbers.extend(offsets.inversions);
         }
         numbers
     }
 
-    /// The state with these numbers.
-    pub fn from_numbers(numbers: &[u64; NUMBERS]) -> State {
-        let task = |i: usize| Task {
-            offset: numbers[1 + 4 * i],
-            time: numbers[2 + 4 * i],
-            period: numbers[3 + 4 * i],
-            deadline: numbers[4 + 4 * i],
-        };
-        let offsets = |first: usize| Offsets {
-            idle: numbers[first],
-            inversions: std::array::from_fn(|i| numbers[first + 1 + i]),
-        };
-        State {
-            n: numbers[0],
-            tasks: std::array::from_fn(task),
-            next: std::array::from_fn(|i| numbers[65 + i]),
-            cycle: numbers[81],
+    /// The state with these numbers in that order; none where they are too few or too many.
+    pub fn state_of(&self, numbers: &[u64]) -> Option<State> {
+        let mut left = numbers.iter().copied();
+        let mut number = || left.next();
+        let state = State {
+            n: number()?,
+            tasks: slots(|| {
+                Some(Task {
+                    offset: number()?,
+                    time: number()?,
+                    period: number()?,
+                    deadline: number()?,
+                })
+            })?,
+            next: slots(&mut number)?,
+            cycle: number()?,
             running: Running {
-                task: numbers[82],
-                job: numbers[83],
-                start: numbers[84],
+                task: number()?,
+                job: number()?,
+                start: number()?,
             },
-            now: offsets(85),
-            at_start: offsets(102),
-        }
+            now: Offsets {
+                idle: number()?,
+                inversions: slots(&mut number)?,
+            },
+            at_start: Offsets {
+                idle: number()?,
+                inversions: slots(&mut number)?,
+            },
+        };
+        left.next().is_none().then_some(state)
     }
+}
+
+impl State {
+    /// The numbers of the state, today's.
+    pub fn numbers(&self) -> [u64; NUMBERS] {
+        let numbers = TODAY.numbers_of(self).try_into();
+        numbers.expect("a state has that many numbers")
+    }
+
+    /// The state with these numbers, today's.
+    pub fn from_numbers(numbers: &[u64; NUMBERS]) -> State {
+        let state = TODAY.state_of(numbers);
+        state.expect("a state has that many numbers")
+    }
+}
+
+/// A value for each slot.
+fn slots<T: Copy + Default>(mut next: impl FnMut() -> Option<T>) -> Option<[T; SLOTS]> {
+    let mut slots = [T::default(); SLOTS];
+    for slot in &mut slots {
+        *slot = next()?;
+    }
+    Some(slots)
 }
 
 /// A start: task, job, cycle and absolute time.
@@ -100,83 +136,85 @@ fn stopped(number: u64) -> Step {
     (State::default(), refuse(number, 0))
 }
 
-/// Beginning: full acceptance of a table image, then the first start.
-pub fn begin(image: &[u8]) -> Step {
-    let set = match check_tables(image) {
-        Ok((set, _, _)) => set,
-        Err(refusal) => return (State::default(), Err(refusal)),
-    };
-    let offsets = offsets_at_start(image, set.tasks.len());
-    let mut state = State {
-        n: set.tasks.len() as u64,
-        now: offsets,
-        at_start: offsets,
-        ..State::default()
-    };
-    state.tasks[..set.tasks.len()].copy_from_slice(&set.tasks);
-    start_or_stop(image, &set, state, 0)
-}
+impl Rules {
+    /// Beginning: full acceptance of a table image, then the first start.
+    pub fn begin(&self, image: &[u8]) -> Step {
+        let set = match self.check_tables(image) {
+            Ok((set, _, _)) => set,
+            Err(refusal) => return (State::default(), Err(refusal)),
+        };
+        let offsets = self.offsets_at_start(image, &set);
+        let mut state = State {
+            n: set.tasks.len() as u64,
+            now: offsets,
+            at_start: offsets,
+            ..State::default()
+        };
+        state.tasks[..set.tasks.len()].copy_from_slice(&set.tasks);
+        start_or_stop(image, &set, state, 0)
+    }
 
-/// The offsets as at a cycle's start, in an accepted table image with n tasks.
-pub fn offsets_at_start(image: &[u8], n: usize) -> Offsets {
-    let records = frame(image, TABLES).expect("the image is accepted");
-    let length = |record: &Record| record_length(record.mark());
-    let before = |index: usize| records[..index].iter().map(length).sum::<usize>() as u64;
-    let mut offsets = Offsets {
-        idle: before(1 + n),
-        ..Offsets::default()
-    };
-    for task in 0..n {
-        let index = records.iter().position(|record| match record {
-            Record::Pv(inversion) => inversion.task >= task,
-            record => record.mark() == Mark::En,
-        });
-        offsets.inversions[task] = before(index.expect("an image ends with EN"));
+    /// The offsets as at a cycle's start, in an accepted table image of this set.
+    fn offsets_at_start(&self, image: &[u8], set: &Set) -> Offsets {
+        let records = self.frame(image, TABLES).expect("the image is accepted");
+        let length = |record: &Record| record_length(record.mark());
+        let before = |index: usize| records[..index].iter().map(length).sum::<usize>() as u64;
+        let mut offsets = Offsets {
+            idle: before(set.head()),
+            ..Offsets::default()
+        };
+        for task in 0..set.tasks.len() {
+            let index = records.iter().position(|record| match record {
+                Record::Pv(inversion) => inversion.task >= task,
+                record => record.mark() == Mark::En,
+            });
+            offsets.inversions[task] = before(index.expect("an image ends with EN"));
+        }
+        offsets
     }
-    offsets
-}
 
-/// Going on, with the reported end as an absolute time.
-pub fn go_on(image: &[u8], state: &State, end: u64) -> Step {
-    if *state == State::default() {
-        return (*state, refuse(23, 0));
+    /// Going on, with the reported end as an absolute time.
+    pub fn go_on(&self, image: &[u8], state: &State, end: u64) -> Step {
+        if *state == State::default() {
+            return (*state, refuse(23, 0));
+        }
+        let Some(set) = self.possible(state) else {
+            return stopped(25);
+        };
+        let start = running_start(&set, state).time;
+        let time = state.tasks[state.running.task as usize].time;
+        if end < start {
+            return (*state, refuse(21, 0));
+        }
+        if end > start + time {
+            return stopped(22);
+        }
+        if !all_started(&set, state) {
+            return start_or_stop(image, &set, *state, state.running.start + time);
+        }
+        if state.cycle == LAST_CYCLE {
+            return (*state, refuse(24, 0));
+        }
+        start_or_stop(image, &set, next_cycle(&set, state), 0)
     }
-    let Some(set) = possible(state) else {
-        return stopped(25);
-    };
-    let start = running_start(&set, state).time;
-    let time = state.tasks[state.running.task as usize].time;
-    if end < start {
-        return (*state, refuse(21, 0));
-    }
-    if end > start + time {
-        return stopped(22);
-    }
-    if !all_started(&set, state) {
-        return start_or_stop(image, &set, *state, state.running.start + time);
-    }
-    if state.cycle == LAST_CYCLE {
-        return (*state, refuse(24, 0));
-    }
-    start_or_stop(image, &set, next_cycle(&set, state), 0)
-}
 
-/// The set of a state that is not impossible in itself.
-fn possible(state: &State) -> Option<Set> {
-    let set = judge_set(state.n, &state.tasks).ok()?;
-    let n = set.tasks.len();
-    if (0..n).any(|task| state.next[task] > set.jobs(task)) {
-        return None;
+    /// The set of a state that is not impossible in itself.
+    fn possible(&self, state: &State) -> Option<Set> {
+        let set = self.judge_set(state.n, &state.tasks).ok()?;
+        let n = set.tasks.len();
+        if (0..n).any(|task| state.next[task] > set.jobs(task)) {
+            return None;
+        }
+        let Running { task, job, start } = state.running;
+        if task >= state.n || state.next[task as usize] != job + 1 {
+            return None;
+        }
+        let task = set.tasks[task as usize];
+        if start < task.release(job) || start + task.time > task.due(job) {
+            return None;
+        }
+        Some(set)
     }
-    let Running { task, job, start } = state.running;
-    if task >= state.n || state.next[task as usize] != job + 1 {
-        return None;
-    }
-    let task = set.tasks[task as usize];
-    if start < task.release(job) || start + task.time > task.due(job) {
-        return None;
-    }
-    Some(set)
 }
 
 fn all_started(set: &Set, state: &State) -> bool {

@@ -1,7 +1,7 @@
 //! The written form of cases: images in hex, tasks, states and refusals.
 
-use crate::dispatcher::{State, Step, NUMBERS};
-use crate::independent::{Refusal, Task};
+use crate::dispatcher::{State, Step};
+use crate::independent::{Rules, Task};
 
 /// An image as hex, `-` for no bytes.
 pub fn image_text(image: &[u8]) -> String {
@@ -50,28 +50,26 @@ pub fn task_from(text: &str) -> Option<Task> {
     }
 }
 
-pub fn state_text(state: &State) -> String {
-    let numbers: Vec<String> = state.numbers().iter().map(u64::to_string).collect();
-    numbers.join(",")
-}
+impl Rules {
+    pub fn state_text(&self, state: &State) -> String {
+        let numbers = self.numbers_of(state);
+        let texts: Vec<String> = numbers.iter().map(u64::to_string).collect();
+        texts.join(",")
+    }
 
-pub fn state_from(text: &str) -> Option<State> {
-    let numbers: [u64; NUMBERS] = numbers_from(text)?.try_into().ok()?;
-    Some(State::from_numbers(&numbers))
-}
+    pub fn state_from(&self, text: &str) -> Option<State> {
+        self.state_of(&numbers_from(text)?)
+    }
 
-pub fn refusal_text(refusal: Refusal) -> String {
-    format!("refused {} {}", refusal.number, refusal.place)
-}
-
-/// The dispatcher's answer with the state after it.
-pub fn step_text((state, answer): &Step) -> String {
-    let answer = match answer {
-        Ok(start) => format!(
-            "start {} {} {} {}",
-            start.task, start.job, start.cycle, start.time
-        ),
-        Err(refusal) => refusal_text(*refusal),
-    };
-    format!("{answer} state {}", state_text(state))
+    /// The dispatcher's answer with the state after it.
+    pub fn step_text(&self, (state, answer): &Step) -> String {
+        let answer = match answer {
+            Ok(start) => format!(
+                "start {} {} {} {}",
+                start.task, start.job, start.cycle, start.time
+            ),
+            Err(refusal) => self.refusal_text(*refusal),
+        };
+        format!("{answer} state {}", self.state_text(state))
+    }
 }

@@ -1,6 +1,8 @@
 //! Document 01 written down plainly a second time: task sets, images, timetables, irregularity
-//! tables and replay. Numbers have 64 bits, so that no sum of 32-bit fields wraps.
+//! tables and replay. Numbers have 64 bits, so that no sum of 32-bit fields wraps. What a request of
+//! document 02 changes asks the rules whether it has landed, so that every stage can be answered for.
 
+use crate::landed::{Landed, LANDED};
 use std::collections::BTreeMap;
 
 pub const MOST_TASKS: u64 = 16;
@@ -10,6 +12,15 @@ pub const LONGEST_LISTED: usize = 65_536;
 
 pub const TIMETABLE: u64 = 1;
 pub const TABLES: u64 = 2;
+
+/// Document 01's rules with those of the requests that have landed.
+#[derive(Clone, Copy)]
+pub struct Rules {
+    pub landed: Landed,
+}
+
+/// The rules of what has landed today.
+pub const TODAY: Rules = Rules { landed: LANDED };
 
 /// A refusal: its number and its place.
 #[derive(Clone, Copy, PartialEq, Eq, Debug)]
@@ -61,36 +72,43 @@ impl Set {
         self.hyperperiod / self.tasks[task].period
     }
 
+    /// How many records an image has before its entries or its tables: TS and a TK for each task.
+    pub fn head(&self) -> usize {
+        1 + self.tasks.len()
+    }
+
     pub fn all_jobs(&self) -> u64 {
         (0..self.tasks.len()).map(|task| self.jobs(task)).sum()
     }
 }
 
-/// Judges the first n of the tasks as a set: numbers 5 to 9.
-pub fn judge_set(n: u64, tasks: &[Task]) -> Result<Set, Refusal> {
-    if n < 1 || n > MOST_TASKS {
-        return refuse(5, 0);
-    }
-    let tasks = &tasks[..n as usize];
-    for (i, task) in tasks.iter().enumerate() {
-        if !task.keeps_its_rule() {
-            return refuse(6, i + 1);
+impl Rules {
+    /// Judges the first n of the tasks as a set: numbers 5 to 9.
+    pub fn judge_set(&self, n: u64, tasks: &[Task]) -> Result<Set, Refusal> {
+        if n < 1 || n > MOST_TASKS {
+            return refuse(5, 0);
         }
-        if i > 0 && task.period < tasks[i - 1].period {
-            return refuse(7, i + 1);
+        let tasks = &tasks[..n as usize];
+        for (i, task) in tasks.iter().enumerate() {
+            if !task.keeps_its_rule() {
+                return refuse(6, i + 1);
+            }
+            if i > 0 && task.period < tasks[i - 1].period {
+                return refuse(7, i + 1);
+            }
         }
+        let Some(hyperperiod) = hyperperiod(tasks) else {
+            return refuse(8, 0);
+        };
+        let set = Set {
+            tasks: tasks.to_vec(),
+            hyperperiod,
+        };
+        if set.all_jobs() > MOST_JOBS {
+            return refuse(9, 0);
+        }
+        Ok(set)
     }
-    let Some(hyperperiod) = hyperperiod(tasks) else {
-        return refuse(8, 0);
-    };
-    let set = Set {
-        tasks: tasks.to_vec(),
-        hyperperiod,
-    };
-    if set.all_jobs() > MOST_JOBS {
-        return refuse(9, 0);
-    }
-    Ok(set)
 }
 
 /// The least common multiple of the periods, if it is at most 65,535.
@@ -277,19 +295,21 @@ pub fn front(bytes: &[u8]) -> Front {
 
 // ---- Framing ----
 
-/// The marks allowed after these records of an image whose kind is the one wanted.
-fn allowed(before: &[Record], kind: u64) -> &'static [Mark] {
-    let Some(Record::Ts { n, .. }) = before.first() else {
-        return &[Mark::Ts];
-    };
-    if (before.len() as u64) < 1 + n {
-        &[Mark::Tk]
-    } else if kind == TIMETABLE {
-        &[Mark::Sl, Mark::En]
-    } else if before.last().unwrap().mark() == Mark::Pv {
-        &[Mark::Pv, Mark::En]
-    } else {
-        &[Mark::Id, Mark::Pv, Mark::En]
+impl Rules {
+    /// The marks allowed after these records of an image whose kind is the one wanted.
+    fn allowed(&self, before: &[Record], kind: u64) -> &'static [Mark] {
+        let Some(Record::Ts { n, .. }) = before.first() else {
+            return &[Mark::Ts];
+        };
+        if (before.len() as u64) < 1 + n {
+            &[Mark::Tk]
+        } else if kind == TIMETABLE {
+            &[Mark::Sl, Mark::En]
+        } else if before.last().unwrap().mark() == Mark::Pv {
+            &[Mark::Pv, Mark::En]
+        } else {
+            &[Mark::Id, Mark::Pv, Mark::En]
+        }
     }
 }
 
@@ -304,41 +324,49 @@ fn allowed_record(bytes: &[u8], marks: &[Mark], index: usize) -> Result<Record, 
     }
 }
 
-/// The tests of framing on a whole record: 3, 4 and 5 for TS, 10 for EN.
-fn judge_frame(record: Record, kind_wanted: u64, index: usize, left: usize) -> Result<(), Refusal> {
-    match record {
-        Record::Ts { edition, .. } if edition != 1 => refuse(3, index),
-        Record::Ts { kind, .. } if kind != kind_wanted => refuse(4, index),
-        Record::Ts { n, .. } if n < 1 || n > MOST_TASKS => refuse(5, index),
-        Record::En(number) if number != index as u64 || left > 0 => refuse(10, index),
-        _ => Ok(()),
+impl Rules {
+    /// The tests of framing on a whole record: 3, 4 and 5 for TS, 10 for EN.
+    fn judge_frame(
+        &self,
+        record: Record,
+        kind_wanted: u64,
+        index: usize,
+        left: usize,
+    ) -> Result<(), Refusal> {
+        match record {
+            Record::Ts { edition, .. } if edition != 1 => refuse(3, index),
+            Record::Ts { kind, .. } if kind != kind_wanted => refuse(4, index),
+            Record::Ts { n, .. } if n < 1 || n > MOST_TASKS => refuse(5, index),
+            Record::En(number) if number != index as u64 || left > 0 => refuse(10, index),
+            _ => Ok(()),
+        }
     }
-}
 
-/// The records of an image, TS and EN included, if its framing is that of the kind wanted.
-pub fn frame(image: &[u8], kind: u64) -> Result<Vec<Record>, Refusal> {
-    let mut records = Vec::new();
-    let mut rest = image;
-    while !matches!(records.last(), Some(Record::En(_))) {
-        let index = records.len();
-        let record = allowed_record(rest, allowed(&records, kind), index)?;
-        rest = &rest[record_length(record.mark())..];
-        judge_frame(record, kind, index, rest.len())?;
-        records.push(record);
+    /// The records of an image, TS and EN included, if its framing is that of the kind wanted.
+    pub fn frame(&self, image: &[u8], kind: u64) -> Result<Vec<Record>, Refusal> {
+        let mut records = Vec::new();
+        let mut rest = image;
+        while !matches!(records.last(), Some(Record::En(_))) {
+            let index = records.len();
+            let record = allowed_record(rest, self.allowed(&records, kind), index)?;
+            rest = &rest[record_length(record.mark())..];
+            self.judge_frame(record, kind, index, rest.len())?;
+            records.push(record);
+        }
+        Ok(records)
     }
-    Ok(records)
-}
 
-/// The set that the TK records of an image give.
-fn judge_tasks(records: &[Record]) -> Result<Set, Refusal> {
-    let tasks: Vec<Task> = records
-        .iter()
-        .filter_map(|record| match record {
-            Record::Tk(task) => Some(*task),
-            _ => None,
-        })
-        .collect();
-    judge_set(tasks.len() as u64, &tasks)
+    /// The set that the TK records of an image give.
+    fn judge_tasks(&self, records: &[Record]) -> Result<Set, Refusal> {
+        let tasks: Vec<Task> = records
+            .iter()
+            .filter_map(|record| match record {
+                Record::Tk(task) => Some(*task),
+                _ => None,
+            })
+            .collect();
+        self.judge_set(tasks.len() as u64, &tasks)
+    }
 }
 
 /// The records of an image of this kind: TS, a TK for each task, the inner ones, EN.
@@ -379,7 +407,7 @@ pub fn judge_entries(set: &Set, entries: &[Entry]) -> Result<(), Refusal> {
     let mut previous_end = 0;
     for (i, entry) in entries.iter().enumerate() {
         if let Some(number) = broken_by(set, &next, previous_end, *entry) {
-            return refuse(number, 1 + set.tasks.len() + i);
+            return refuse(number, set.head() + i);
         }
         next[entry.task] += 1;
         previous_end = entry.start + set.tasks[entry.task].time;
@@ -481,7 +509,7 @@ pub fn inversion_in_range(set: &Set, inversion: Inversion) -> bool {
 
 /// Judges the ID and PV records in turn: number 17.
 pub fn judge_tables(set: &Set, tables: &Tables) -> Result<(), Refusal> {
-    let first = 1 + set.tasks.len();
+    let first = set.head();
     for (i, idle) in tables.idles.iter().enumerate() {
         let above = i == 0 || {
             let before = tables.idles[i - 1];
@@ -570,54 +598,56 @@ pub fn replay(set: &Set, tables: &Tables) -> Result<Vec<Entry>, Refusal> {
 
 // ---- The operations on images ----
 
-/// Plain checking of a timetable image; gives its set and entries.
-pub fn check_timetable(image: &[u8]) -> Result<(Set, Vec<Entry>), Refusal> {
-    let records = frame(image, TIMETABLE)?;
-    let set = judge_tasks(&records)?;
-    let mut entries = Vec::new();
-    for record in records {
-        if let Record::Sl(entry) = record {
-            entries.push(entry);
+impl Rules {
+    /// Plain checking of a timetable image; gives its set and entries.
+    pub fn check_timetable(&self, image: &[u8]) -> Result<(Set, Vec<Entry>), Refusal> {
+        let records = self.frame(image, TIMETABLE)?;
+        let set = self.judge_tasks(&records)?;
+        let mut entries = Vec::new();
+        for record in records {
+            if let Record::Sl(entry) = record {
+                entries.push(entry);
+            }
+        }
+        judge_entries(&set, &entries)?;
+        Ok((set, entries))
+    }
+
+    /// Plain checking of a table image; gives its set, its tables and the replayed timetable.
+    pub fn check_tables(&self, image: &[u8]) -> Result<(Set, Tables, Vec<Entry>), Refusal> {
+        let records = self.frame(image, TABLES)?;
+        let set = self.judge_tasks(&records)?;
+        let mut tables = Tables::default();
+        for record in &records {
+            match record {
+                Record::Id(idle) => tables.idles.push(*idle),
+                Record::Pv(inversion) => tables.inversions.push(*inversion),
+                _ => {}
+            }
+        }
+        judge_tables(&set, &tables)?;
+        let entries = replay(&set, &tables)?;
+        let replayed = table_records(&set, &irregularities(&set, &entries));
+        match (0..records.len()).find(|&index| records.get(index) != replayed.get(index)) {
+            Some(index) => refuse(19, index),
+            None => Ok((set, tables, entries)),
         }
     }
-    judge_entries(&set, &entries)?;
-    Ok((set, entries))
-}
 
-/// Plain checking of a table image; gives its set, its tables and the replayed timetable.
-pub fn check_tables(image: &[u8]) -> Result<(Set, Tables, Vec<Entry>), Refusal> {
-    let records = frame(image, TABLES)?;
-    let set = judge_tasks(&records)?;
-    let mut tables = Tables::default();
-    for record in &records {
-        match record {
-            Record::Id(idle) => tables.idles.push(*idle),
-            Record::Pv(inversion) => tables.inversions.push(*inversion),
-            _ => {}
-        }
+    /// The kind 2 image of a kind 1 image, if it fits the room.
+    pub fn derive(&self, image: &[u8], room: u64) -> Result<Vec<u8>, Refusal> {
+        let (set, entries) = self.check_timetable(image)?;
+        fitting(
+            encode(&table_records(&set, &irregularities(&set, &entries))),
+            room,
+        )
     }
-    judge_tables(&set, &tables)?;
-    let entries = replay(&set, &tables)?;
-    let replayed = table_records(&set, &irregularities(&set, &entries));
-    match (0..records.len()).find(|&index| records.get(index) != replayed.get(index)) {
-        Some(index) => refuse(19, index),
-        None => Ok((set, tables, entries)),
+
+    /// The kind 1 image of a kind 2 image, if it fits the room.
+    pub fn rebuild(&self, image: &[u8], room: u64) -> Result<Vec<u8>, Refusal> {
+        let (set, _, entries) = self.check_tables(image)?;
+        fitting(encode(&timetable_records(&set, &entries)), room)
     }
-}
-
-/// The kind 2 image of a kind 1 image, if it fits the room.
-pub fn derive(image: &[u8], room: u64) -> Result<Vec<u8>, Refusal> {
-    let (set, entries) = check_timetable(image)?;
-    fitting(
-        encode(&table_records(&set, &irregularities(&set, &entries))),
-        room,
-    )
-}
-
-/// The kind 1 image of a kind 2 image, if it fits the room.
-pub fn rebuild(image: &[u8], room: u64) -> Result<Vec<u8>, Refusal> {
-    let (set, _, entries) = check_tables(image)?;
-    fitting(encode(&timetable_records(&set, &entries)), room)
 }
 
 fn fitting(result: Vec<u8>, room: u64) -> Result<Vec<u8>, Refusal> {
@@ -627,22 +657,30 @@ fn fitting(result: Vec<u8>, room: u64) -> Result<Vec<u8>, Refusal> {
     Ok(result)
 }
 
-/// The lines that the listing program writes.
-pub fn listing(image: &[u8]) -> Vec<String> {
-    if image.len() > LONGEST_LISTED {
-        return vec!["refused 20 0".to_string()];
+impl Rules {
+    /// A refusal as it is told.
+    pub fn refusal_text(&self, refusal: Refusal) -> String {
+        format!("refused {} {}", refusal.number, refusal.place)
     }
-    let (set, _, entries) = match check_tables(image) {
-        Ok(accepted) => accepted,
-        Err(refusal) => return vec![format!("refused {} {}", refusal.number, refusal.place)],
-    };
-    let mut lines = Vec::new();
-    let mut next = vec![0; set.tasks.len()];
-    for &Entry { task, start } in &entries {
-        let end = start + set.tasks[task].time;
-        lines.push(format!("{task} {} {start} {end}", next[task]));
-        next[task] += 1;
+
+    /// The lines that the listing program writes.
+    pub fn listing(&self, image: &[u8]) -> Vec<String> {
+        if image.len() > LONGEST_LISTED {
+            let (number, place) = (20, 0);
+            return vec![self.refusal_text(Refusal { number, place })];
+        }
+        let (set, _, entries) = match self.check_tables(image) {
+            Ok(accepted) => accepted,
+            Err(refusal) => return vec![self.refusal_text(refusal)],
+        };
+        let mut lines = Vec::new();
+        let mut next = vec![0; set.tasks.len()];
+        for &Entry { task, start } in &entries {
+            let end = start + set.tasks[task].time;
+            lines.push(format!("{task} {} {start} {end}", next[task]));
+            next[task] += 1;
+        }
+        lines.push(format!("ok {}", entries.len()));
+        lines
     }
-    lines.push(format!("ok {}", entries.len()));
-    lines
 }

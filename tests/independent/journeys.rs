@@ -4,8 +4,9 @@
 use crate::cases::{go_text, random_tables};
 use crate::chance::Chance;
 use crate::damage::change_byte;
-use crate::dispatcher::{begin, go_on, State, LAST_CYCLE};
+use crate::dispatcher::{State, LAST_CYCLE};
 use crate::form::image_text;
+use crate::independent::TODAY;
 use crate::rides::{change_number, reported_end};
 
 const MOST_CALLS: u64 = 150;
@@ -24,7 +25,7 @@ pub fn journey(chance: &mut Chance) -> Vec<String> {
                 image = random_tables(chance).1;
             }
             cases.push(format!("begin {}", image_text(&image)));
-            state = begin(&image).0;
+            state = TODAY.begin(&image).0;
             over = state == State::default();
             if !over && !calm && chance.one_in(3) {
                 state.cycle = LAST_CYCLE - chance.below(3);
@@ -36,7 +37,7 @@ pub fn journey(chance: &mut Chance) -> Vec<String> {
         }
         let end = some_end(chance, &state, calm);
         cases.push(go_text(&image, &state, end));
-        let (after, answer) = go_on(&image, &state, end);
+        let (after, answer) = TODAY.go_on(&image, &state, end);
         state = after;
         over = answer.is_err_and(|refusal| refusal.number != 21);
     }

@@ -4,13 +4,16 @@
 use crate::cases::random_tables;
 use crate::chance::Chance;
 use crate::damage::{change_byte, id, pv, random_record, ranged_idle, ranged_inversion};
-use crate::dispatcher::{begin, go_on, Offsets, Running, State, LAST_CYCLE, NUMBERS, SLOTS};
+use crate::dispatcher::{Offsets, Running, State, CYCLE, LAST_CYCLE, NUMBERS, SLOTS};
 use crate::independent::{
-    encode, instant_with_waiting, judge_set, record_length, Idle, Mark, Record, Set,
+    encode, instant_with_waiting, record_length, Idle, Mark, Record, Set, TODAY,
 };
 use crate::sets::{bad_tasks, good_set};
 
 const MOST_STEPS: u64 = 100;
+
+/// The numbers of a state that are of no slot: n, the cycle, the running job's three, the ID offset.
+const OF_NO_SLOT: [usize; 6] = [0, CYCLE, CYCLE + 1, CYCLE + 2, CYCLE + 3, CYCLE + 4];
 
 /// A call of going on.
 pub struct Ride {
@@ -51,13 +54,8 @@ pub fn ride(chance: &mut Chance, number: u64) -> Ride {
 
 /// The state with every number cut down to the largest of 32 bits.
 fn within_32_bits(state: &State) -> State {
-    let numbers = numbers_of(state);
+    let numbers = state.numbers();
     State::from_numbers(&numbers.map(|number| number.min(u64::from(u32::MAX))))
-}
-
-fn numbers_of(state: &State) -> [u64; NUMBERS] {
-    let numbers = state.numbers().try_into();
-    numbers.expect("a state has that many numbers")
 }
 
 /// A state reached from the beginning of an accepted image; at a cycle's last start if wanted.
@@ -69,11 +67,11 @@ fn reached(chance: &mut Chance, last: bool) -> Ride {
     } else {
         chance.between(1, (4 * jobs + 1).min(MOST_STEPS))
     };
-    let mut step = begin(&image);
+    let mut step = TODAY.begin(&image);
     for _ in 1..steps {
         let start = step.1.expect("an accepted image goes on");
         let end = start.time + set.tasks[start.task as usize].time;
-        step = go_on(&image, &step.0, end);
+        step = TODAY.go_on(&image, &step.0, end);
     }
     Ride {
         image,
@@ -84,7 +82,7 @@ fn reached(chance: &mut Chance, last: bool) -> Ride {
 
 /// The absolute start of the running job and the latest end, where the state has such.
 fn running_times(state: &State) -> Option<(u64, u64)> {
-    let set = judge_set(state.n, &state.tasks).ok()?;
+    let set = TODAY.judge_set(state.n, &state.tasks).ok()?;
     let task = set.tasks.get(state.running.task as usize)?;
     let start = state.cycle * set.hyperperiod + state.running.start;
     Some((start, start + task.time))
@@ -157,9 +155,9 @@ fn nearly_stopped(chance: &mut Chance) -> State {
 
 /// Changes one number of the state, whichever; one way keeps its lower bits.
 pub fn change_number(chance: &mut Chance, state: &mut State) {
-    let mut numbers = numbers_of(state);
+    let mut numbers = state.numbers();
     let at = if chance.one_in(3) {
-        chance.pick(&[0, 81, 82, 83, 84, 85])
+        chance.pick(&OF_NO_SLOT)
     } else {
         chance.index(NUMBERS)
     };
@@ -205,7 +203,7 @@ fn run_the_job_before(state: &mut State, period: u64) {
 }
 
 fn damage_next(chance: &mut Chance, state: &mut State) {
-    let Ok(set) = judge_set(state.n, &state.tasks) else {
+    let Ok(set) = TODAY.judge_set(state.n, &state.tasks) else {
         return;
     };
     let task = chance.index(set.tasks.len());
@@ -255,7 +253,7 @@ fn other_offset(chance: &mut Chance, offset: u64, length: u64) -> u64 {
 /// Puts a record at the edge of its range, or one that does not belong there, at an offset that
 /// is read.
 fn spoil_record(chance: &mut Chance, ride: &mut Ride) {
-    let Ok(set) = judge_set(ride.state.n, &ride.state.tasks) else {
+    let Ok(set) = TODAY.judge_set(ride.state.n, &ride.state.tasks) else {
         return;
     };
     let all = (0..set.tasks.len()).all(|task| ride.state.next[task] == set.jobs(task));

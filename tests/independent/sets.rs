@@ -1,9 +1,7 @@
 //! Random task sets, good and bad, and random valid timetables of the good ones.
 
 use crate::chance::Chance;
-use crate::independent::{
-    instant_with_waiting, irregularities, judge_set, waiting, Entry, Set, Task,
-};
+use crate::independent::{instant_with_waiting, irregularities, waiting, Entry, Set, Task, TODAY};
 
 const HYPERPERIODS: [u64; 26] = [
     1, 2, 4, 6, 8, 10, 12, 12, 20, 24, 24, 24, 30, 36, 40, 48, 48, 60, 60, 72, 120, 360, 2_520,
@@ -22,7 +20,9 @@ fn task(offset: u64, time: u64, period: u64, deadline: u64) -> Task {
 }
 
 fn set_of(tasks: &[Task]) -> Set {
-    judge_set(tasks.len() as u64, tasks).expect("the set is good")
+    TODAY
+        .judge_set(tasks.len() as u64, tasks)
+        .expect("the set is good")
 }
 
 /// A random set that keeps every rule and has few jobs.
@@ -32,7 +32,7 @@ pub fn good_set(chance: &mut Chance) -> Set {
     }
     loop {
         let tasks = random_tasks(chance);
-        if let Ok(set) = judge_set(tasks.len() as u64, &tasks) {
+        if let Ok(set) = TODAY.judge_set(tasks.len() as u64, &tasks) {
             if set.all_jobs() <= MOST_SMALL_JOBS {
                 return set;
             }

@@ -11,11 +11,12 @@ test -f "$program" || { echo "no program at $program" >&2; exit 1; }
 archive=${HV_ARCHIVE:-$folder/../../target/staticlib/libhervantyu.a}
 samples=$folder/../../samples
 . "$folder/../host.sh"
+stored=$(mktemp)
 cases=$(mktemp)
 long=$(mktemp)
 out=$(mktemp)
 err=$(mktemp)
-trap 'rm -f "$cases" "$long" "$out" "$err"' EXIT
+trap 'rm -f "$stored" "$cases" "$long" "$out" "$err"' EXIT
 count=0
 differ=0
 
@@ -46,6 +47,8 @@ told() {
     compare "$1" "$2 and $3" "$(joined <"$out") and $(joined <"$err")"
 }
 
+"$folder/../stored.sh" "$folder"/*-*.txt >"$stored"
+
 # Each case as its lines, then its image in hex, then its bytes as printf's %b reads them.
 awk -v digits=0123456789abcdef '{
     image = $2
@@ -54,7 +57,7 @@ awk -v digits=0123456789abcdef '{
     for (i = 1; i < length(image); i += 2)
         printf "\\0%03o", 16 * index(digits, substr(image, i, 1)) + index(digits, substr(image, i + 1, 1)) - 17
     print ""
-}' "$folder/cases.txt" >"$cases"
+}' "$stored" >"$cases"
 
 while IFS='=' read -r lines image bytes; do
     compare "list $image" "$lines|" "$(printf %b "$bytes" | listed)"

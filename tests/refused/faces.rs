@@ -2,7 +2,7 @@
 
 use crate::archive::{self, Refusal, State, Step};
 use crate::dispatcher;
-use crate::independent::{self, Task};
+use crate::independent::{self, Task, TODAY};
 
 /// What an image is asked as: to be checked, or turned into the other kind.
 #[derive(Clone, Copy)]
@@ -65,34 +65,34 @@ impl Face for Independent {
 
     fn judge_set(&self, n: u32, tasks: &[[u32; 4]]) -> Result<(u32, u32), Refusal> {
         let tasks: Vec<Task> = tasks.iter().map(task).collect();
-        let judged = independent::judge_set(u64::from(n), &tasks);
+        let judged = TODAY.judge_set(u64::from(n), &tasks);
         let figures = judged.map(|set| (set.hyperperiod as u32, set.all_jobs() as u32));
         figures.map_err(refusal)
     }
 
     fn check(&self, kind: Kind, image: &[u8]) -> Result<(), Refusal> {
         match kind {
-            Kind::Timetable => independent::check_timetable(image).map(|_| ()),
-            Kind::Tables => independent::check_tables(image).map(|_| ()),
+            Kind::Timetable => TODAY.check_timetable(image).map(|_| ()),
+            Kind::Tables => TODAY.check_tables(image).map(|_| ()),
         }
         .map_err(refusal)
     }
 
     fn turn(&self, kind: Kind, room: u64, image: &[u8]) -> Result<Vec<u8>, Refusal> {
         match kind {
-            Kind::Timetable => independent::derive(image, room),
-            Kind::Tables => independent::rebuild(image, room),
+            Kind::Timetable => TODAY.derive(image, room),
+            Kind::Tables => TODAY.rebuild(image, room),
         }
         .map_err(refusal)
     }
 
     fn begin(&self, image: &[u8]) -> Step {
-        step(dispatcher::begin(image))
+        step(TODAY.begin(image))
     }
 
     fn go_on(&self, image: &[u8], state: &State, end: u64) -> Step {
         let state = dispatcher::State::from_numbers(&state.map(u64::from));
-        step(dispatcher::go_on(image, &state, end))
+        step(TODAY.go_on(image, &state, end))
     }
 }
 
@@ -113,12 +113,7 @@ fn refusal(given: independent::Refusal) -> Refusal {
 }
 
 fn step((state, given): dispatcher::Step) -> Step {
-    let numbers: Vec<u32> = state
-        .numbers()
-        .iter()
-        .map(|number| *number as u32)
-        .collect();
+    let numbers = state.numbers().map(|number| number as u32);
     let start = given.map(|start| [start.task, start.job, start.cycle, start.time]);
-    let numbers = numbers.try_into().expect("a state has that many numbers");
     (numbers, start.map_err(refusal))
 }

@@ -7,24 +7,25 @@ use Prim.Native.Nat.{ℕ, _+_, _-_, max, _≤_, _<_}
 use native.Mathlib.Omega.{arith}
 use lib.ListN.{length}
 use borrow.Author.Tests.{eq-eqb, ne-eqb}
-use Rattle.rules.specs.declared.Task.{Task}
 use Rattle.rules.specs.declared.Idle.{Idle}
-use Rattle.rules.specs.Tasks.{hyperperiod}
+use Rattle.rules.specs.Tasks.{Set, hyperperiod}
 use Rattle.rules.specs.Setting.{instant}
 use Rattle.rules.specs.Priority.{setting, least-release}
 use Rattle.rules.specs.Decision.{idle-for, idle-at}
-use Rattle.rules.specs.Marks.{ID, size, body-length}
+use Rattle.rules.specs.Marks.{ID, size}
 use Rattle.rules.specs.Offsets.{Shown, unreadable, no-record, shows, Source, last-offset, lent, idle-now, past-idle, readable, tasks-readable, all-readable, standing, next-start}
 use Rattle.rules.proofs.Cases.{by-bool, both-in, clash, differ}
 use Rattle.rules.proofs.NextTurns.{shown-choice, lent-in-range, next-unreadable, next-idles}
 use Rattle.decision.specs.declared.IdleShown.{IdleShown}
 use Rattle.decision.specs.declared.IdleShown.the-variants.{Unreadable, NoRecord, Shows}
+use Rattle.decision.specs.declared.NextStart.{NextStart as Answer}
 use Rattle.decision.specs.declared.NextStart.the-variants.{Stuck}
-use Rattle.records.specs.Fits.{SetFits}
-use Rattle.decision.specs.Fits.{Fits}
+use Rattle.decision.specs.declared.Idled.{Idled}
+use Rattle.sets.specs.Kept.{Rows, tasks-in, hyperperiod-in, Keeps}
+use Rattle.decision.specs.Fits.{free-in, idle-offset-in, next-in, releases-in, offsets-in, Fits}
 use Rattle.decision.specs.Shown.{idle-case}
 use Rattle.decision.specs.Waiting.{least-of}
-use Rattle.decision.specs.Next.{IdlesRead, none-left, one-more, next-case, next-of, StartsAt, Idling, IdledTo}
+use Rattle.decision.specs.Next.{IdlesRead, none-left, one-more, next-case, next-from, next-at, StartsAt, Idling, IdledTo}
 use Rattle.decision.proofs.WholeRecords.{idle-unread, idle-after}
 use Rattle.decision.proofs.Fitting.{is-hyperperiod, least-by-end, least-as}
 
@@ -40,39 +41,51 @@ idle-some unreadable r e go = clash (cc)
 idle-some no-record r e go = clash (cc)
 idle-some (shows q after) r e go = let same : r ≡ q = cc in go after (rw same)
 
-module _ (ts : List Task) (bytes x : List ℕ) (f : ℕ) (offsets : List ℕ) (o : ℕ) where
+module _ (ts : Set) (bytes : List ℕ) (at : Rows) (f o : ℕ) where
+  -- next job numbers, and the tasks' offsets
+  abbrev x : List ℕ
+  x = next-in at
+
+  abbrev offsets : List ℕ
+  offsets = offsets-in at
+
   -- a task's offset that cannot be read
-  pub tasks-unread : tasks-readable (lent bytes ts) (length ts) offsets ≡ false → Stuck 25 ≡ next-of ts bytes x f offsets o
+  pub tasks-unread : tasks-readable (lent bytes ts) (length (ts .tasks)) offsets ≡ false → Stuck 25 ≡ next-from ts bytes at f o
   tasks-unread e =
       let all : all-readable (setting ts) (lent bytes ts) offsets o ≡ false =
       by-bool (readable (lent bytes ts .idle-shown o)) (λ b. rw (b, e)) (λ b. rw b) in
       ap (next-case ts bytes x offsets) (sym (next-unreadable bytes ts (standing x f offsets o) (instant (setting ts) x f) refl all))
 
   -- the ID offset cannot be read
-  pub idle-unreadable : Unreadable ≡ idle-case (lent bytes ts .idle-shown o) → Stuck 25 ≡ next-of ts bytes x f offsets o
+  pub idle-unreadable : Unreadable ≡ idle-case (lent bytes ts .idle-shown o) → Stuck 25 ≡ next-from ts bytes at f o
   idle-unreadable e =
       let all : all-readable (setting ts) (lent bytes ts) offsets o ≡ false = rw (idle-unread (lent bytes ts .idle-shown o) e) in
       ap (next-case ts bytes x offsets) (sym (next-unreadable bytes ts (standing x f offsets o) (instant (setting ts) x f) refl all))
 
-  module _ (h n : ℕ) (many slack releases : List ℕ) (fits : Fits ts h n many slack x releases)
-      (read : tasks-readable (lent bytes ts) n offsets ≡ true) (by-end : f ≤ h) (t : ℕ) (is-instant : t ≡ max f (least-of n h releases)) where
+  module _ {kept : Rows} (idling : Idling ts bytes kept at) (by-end : f ≤ hyperperiod-in kept) (t : ℕ)
+      (is-instant : t ≡ max f (least-of (tasks-in kept) (hyperperiod-in kept) (releases-in at))) where
+    -- what has started, and the hyperperiod
+    abbrev fits : Fits ts kept at
+    fits = idling .fits
+
+    abbrev h : ℕ
+    h = hyperperiod-in kept
+
     -- the instant of the decision
     instant-as : instant (setting ts) x f ≡ t
     instant-as =
-        let least : least-of n (hyperperiod ts) releases ≡ least-release (hyperperiod ts) ts x = least-as (rw (is-hyperperiod fits) at fits) in
-        sym (is-instant ∙ rw (is-hyperperiod fits, least))
+        sym (is-instant ∙ ap (max f) (least-as fits) ∙ ap (λ (c : ℕ). max f (least-release c (ts .tasks) x)) (is-hyperperiod fits))
 
     -- it is in the cycle, or at its end
     instant-by-end : t ≤ h
-    instant-by-end = omega (arith, least-as fits, least-by-end h ts x)
+    instant-by-end = omega (arith, least-as fits, least-by-end h (ts .tasks) x)
 
     -- it is left to the tasks
     to-tasks : readable (lent bytes ts .idle-shown o) ≡ true → idle-now (lent bytes ts .idle-shown o) t ≡ none →
-        StartsAt ts bytes x f h n slack releases offsets o t
+        StartsAt ts bytes kept at f o t
     to-tasks can none-now = record {
-      many = many;
       fits = fits;
-      tasks-read = read;
+      tasks-read = idling .tasks-read;
       idle-read = can;
       no-idle = none-now;
       is-instant = instant-as;
@@ -80,12 +93,12 @@ module _ (ts : List Task) (bytes x : List ℕ) (f : ℕ) (offsets : List ℕ) (o
     }
 
     -- no idle record is left
-    pub no-idle-left : NoRecord ≡ idle-case (lent bytes ts .idle-shown o) → StartsAt ts bytes x f h n slack releases offsets o t
+    pub no-idle-left : NoRecord ≡ idle-case (lent bytes ts .idle-shown o) → StartsAt ts bytes kept at f o t
     no-idle-left e = let shown = idle-none (lent bytes ts .idle-shown o) e in to-tasks (rw shown) (rw shown)
 
     module _ (r : Idle) (shown : Shows r ≡ idle-case (lent bytes ts .idle-shown o)) where
       -- the idle record is for another instant
-      pub idle-other : (r .start ≡ t → ⊥) → StartsAt ts bytes x f h n slack releases offsets o t
+      pub idle-other : (r .start ≡ t → ⊥) → StartsAt ts bytes kept at f o t
       idle-other other =
           idle-some (lent bytes ts .idle-shown o) r shown (λ after e. to-tasks (rw e) (rw (e, ne-eqb (r .start) t other, idle-at)))
 
@@ -104,18 +117,18 @@ module _ (ts : List Task) (bytes x : List ℕ) (f : ℕ) (offsets : List ℕ) (o
           idle-some (lent bytes ts .idle-shown o) r shown
           (λ after e.
           let all : all-readable (setting ts) (lent bytes ts) offsets o ≡ true =
-          both-in (readable (lent bytes ts .idle-shown o)) _ (rw e) (rw (fits .set .n-tasks) at read) in
+          both-in (readable (lent bytes ts .idle-shown o)) _ (rw e) (rw (fits .set .n-tasks) at (idling .tasks-read)) in
           let choice : shown-choice (setting ts) (lent bytes ts) (standing x f offsets o) t ≡ idle-for (r .length) = rw (e, eq-eqb (r .start) t now, idle-at) in
           let past : past-idle (lent bytes ts .idle-shown o) o ≡ o + size ID = rw e (idle-after ts bytes o r after e .0) in
           next-idles bytes ts (standing x f offsets o) t instant-as (r .length) all choice
           ∙ ap (λ (w : ℕ). next-start (setting ts) (lent bytes ts) (standing x (t + r .length) offsets w)) past)
 
 -- a task's offset cannot be read, as the answer whether all can be tells
-pub tasks-told-unread : (bytes : List ℕ) {n : ℕ} {many slack : List ℕ} (offsets : List ℕ) {all-there : Bool} →
-    ((ts : List Task) (k : ℕ) → SetFits ts k n many slack → all-there ≡ tasks-readable (lent bytes ts) n offsets) → (free idle : ℕ) {h : ℕ}
-    {x releases : List ℕ} → all-there ≡ false → (ts : List Task) → Fits ts h n many slack x releases → Stuck 25 ≡ next-of ts bytes x free offsets idle
-tasks-told-unread bytes offsets told free idle {h} {x} e ts fits =
-    tasks-unread ts bytes x free offsets idle (rw (fits .set .n-tasks) at (sym (told ts h (fits .set)) ∙ e))
+pub tasks-told-unread : (bytes : List ℕ) {kept at : Rows} {all-there : Bool} →
+    ((ts : Set) → Keeps ts kept → all-there ≡ tasks-readable (lent bytes ts) (tasks-in kept) (offsets-in at)) → all-there ≡ false →
+    (ts : Set) → Fits ts kept at → Stuck 25 ≡ next-at ts bytes at
+tasks-told-unread bytes {at = at} told e ts fits =
+    tasks-unread ts bytes at (free-in at) (idle-offset-in at) (rw (fits .set .n-tasks) at (sym (told ts (fits .set)) ∙ e))
 
 -- an ID offset from which all idle records can be read can be read itself
 idle-can-be-read : {S : Source} {o : ℕ} → IdlesRead S o → readable (S .idle-shown o) ≡ true
@@ -132,87 +145,82 @@ read-behind {after = after} {r = r} (one-more {after = w} {r = q} e rest) shown 
 
 -- from an instant and an ID offset on, the next start is the one that was asked for, whatever fits; and where the image's records were judged, some
 -- set that fits has all idle records read from there
-pub record Decides (bytes : List ℕ) (judged : Bool) (n h : ℕ) (many slack : List ℕ) (first free idle from o : ℕ) : Type 0 where
-  pub by-end : from ≤ h
-  pub same : (ts : List Task) (x releases offsets : List ℕ) → Idling ts bytes h n many slack x releases offsets first →
-      next-start (setting ts) (lent bytes ts) (standing x from offsets o) ≡ next-start (setting ts) (lent bytes ts) (standing x free offsets idle)
-  pub idles-read : judged ≡ true → (ts : List Task) × SetFits ts h n many slack × IdlesRead (lent bytes ts) o
+pub record Decides (bytes : List ℕ) (judged : Bool) (kept at : Rows) (from o : ℕ) : Type 0 where
+  pub by-end : from ≤ hyperperiod-in kept
+  pub same : (ts : Set) → Idling ts bytes kept at →
+      next-start (setting ts) (lent bytes ts) (standing (next-in at) from (offsets-in at) o)
+      ≡ next-start (setting ts) (lent bytes ts) (standing (next-in at) (free-in at) (offsets-in at) (idle-offset-in at))
+  pub idles-read : judged ≡ true → (ts : Set) × Keeps ts kept × IdlesRead (lent bytes ts) o
 
 -- where they were judged, the ID offset can be read
-pub judged-readable : {bytes : List ℕ} {judged : Bool} {n h : ℕ} {many slack : List ℕ} {first free idle from o : ℕ} →
-    Decides bytes judged n h many slack first free idle from o → judged ≡ true →
-    (ts : List Task) × SetFits ts h n many slack × (readable (lent bytes ts .idle-shown o) ≡ true)
+pub judged-readable : {bytes : List ℕ} {judged : Bool} {kept at : Rows} {from o : ℕ} →
+    Decides bytes judged kept at from o → judged ≡ true → (ts : Set) × Keeps ts kept × (readable (lent bytes ts .idle-shown o) ≡ true)
 judged-readable d e = let read = d .idles-read e in (read .0, read .1, idle-can-be-read (read .2))
 
-module _ {bytes : List ℕ} {judged : Bool} {n h : ℕ} {many slack : List ℕ} {first free idle from o : ℕ}
-    (d : Decides bytes judged n h many slack first free idle from o) {t : ℕ} (is-instant : t ≡ max from first) {answer : IdleShown}
-    (shown : (ts : List Task) → SetFits ts h n many slack → answer ≡ idle-case (lent bytes ts .idle-shown o))
-    (ts : List Task) (x releases offsets : List ℕ) (i : Idling ts bytes h n many slack x releases offsets first) where
+module _ {bytes : List ℕ} {judged : Bool} {kept at : Rows} {from o : ℕ} (d : Decides bytes judged kept at from o) {t first : ℕ}
+    (is-instant : t ≡ max from first) (is-first : first ≡ least-of (tasks-in kept) (hyperperiod-in kept) (releases-in at)) {answer : IdleShown}
+    (shown : (ts : Set) → Keeps ts kept → answer ≡ idle-case (lent bytes ts .idle-shown o)) (ts : Set) (i : Idling ts bytes kept at) where
   -- the instant, by the least of releases
-  by-least : t ≡ max from (least-of n h releases)
-  by-least = is-instant ∙ ap (max from) (i .is-first)
+  by-least : t ≡ max from (least-of (tasks-in kept) (hyperperiod-in kept) (releases-in at))
+  by-least = is-instant ∙ ap (max from) is-first
 
   -- what is decided here is the answer
-  decided-here : next-of ts bytes x from offsets o ≡ next-of ts bytes x free offsets idle
-  decided-here = ap (next-case ts bytes x offsets) (d .same ts x releases offsets i)
+  decided-here : next-from ts bytes at from o ≡ next-at ts bytes at
+  decided-here = ap (next-case ts bytes (next-in at) (offsets-in at)) (d .same ts i)
 
   -- the ID offset cannot be read
-  pub idled-unread : answer ≡ Unreadable → IdledTo ts bytes h n slack x releases offsets free idle (record { readable = false; start = t; idle = o })
+  pub idled-unread : answer ≡ Unreadable → IdledTo ts bytes kept at (record { readable = false; start = t; idle = o })
   idled-unread e = record {
-    unread = λ z. idle-unreadable ts bytes x from offsets o (sym e ∙ shown ts (i .fits .set)) ∙ decided-here;
+    unread = λ z. idle-unreadable ts bytes at from o (sym e ∙ shown ts (i .fits .set)) ∙ decided-here;
     read = λ z. differ (sym z);
   }
 
   -- the start is decided here
-  idled-here : StartsAt ts bytes x from h n slack releases offsets o t →
-      IdledTo ts bytes h n slack x releases offsets free idle (record { readable = true; start = t; idle = o })
+  idled-here : StartsAt ts bytes kept at from o t → IdledTo ts bytes kept at (record { readable = true; start = t; idle = o })
   idled-here s = record { unread = λ z. differ z; read = λ z. (from, s, decided-here) }
 
   -- the offset shows no idle record
-  pub idled-none : answer ≡ NoRecord → IdledTo ts bytes h n slack x releases offsets free idle (record { readable = true; start = t; idle = o })
-  idled-none e =
-      idled-here
-      (no-idle-left ts bytes x from offsets o h n many slack releases (i .fits) (i .tasks-read) (d .by-end) t by-least (sym e ∙ shown ts (i .fits .set)))
+  pub idled-none : answer ≡ NoRecord → IdledTo ts bytes kept at (record { readable = true; start = t; idle = o })
+  idled-none e = idled-here (no-idle-left ts bytes at from o i (d .by-end) t by-least (sym e ∙ shown ts (i .fits .set)))
 
   module _ {r : Idle} (shows-it : answer ≡ Shows r) where
     -- it shows one for another instant
-    pub idled-other : (r .start ≡ t → ⊥) → IdledTo ts bytes h n slack x releases offsets free idle (record { readable = true; start = t; idle = o })
+    pub idled-other : (r .start ≡ t → ⊥) → IdledTo ts bytes kept at (record { readable = true; start = t; idle = o })
     idled-other other =
-        idled-here
-        (idle-other ts bytes x from offsets o h n many slack releases (i .fits) (i .tasks-read) (d .by-end) t by-least r
-        (sym shows-it ∙ shown ts (i .fits .set)) other)
+        idled-here (idle-other ts bytes at from o i (d .by-end) t by-least r (sym shows-it ∙ shown ts (i .fits .set)) other)
 
     module _ (now : r .start ≡ t) where
       -- one for this instant ends in the cycle, and at or before the last offset
-      pub used-fits : (1 ≤ r .length) × (t + r .length < h) × (o + size ID ≤ last-offset)
+      pub used-fits : (1 ≤ r .length) × (t + r .length < hyperperiod-in kept) × (o + size ID ≤ last-offset)
       used-fits =
-          let w = idle-fits ts bytes x from offsets o h n many slack releases (i .fits) (i .tasks-read) (d .by-end) t by-least r
-          (sym shows-it ∙ shown ts (i .fits .set)) in
+          let w = idle-fits ts bytes at from o i (d .by-end) t by-least r (sym shows-it ∙ shown ts (i .fits .set)) in
           (w .0, omega (arith, w .1), w .2)
 
       -- less of the cycle is left behind it
-      pub less-left : h - (t + r .length) < h - from
+      pub less-left : hyperperiod-in kept - (t + r .length) < hyperperiod-in kept - from
       less-left = omega (arith, used-fits .0, used-fits .1)
 
       -- and it is used
-      used-again : {len : ℕ} → len ≡ body-length ID →
-          next-start (setting ts) (lent bytes ts) (standing x (t + r .length) offsets (o + (len + 2))) ≡ next-start (setting ts) (lent bytes ts) (standing x free offsets idle)
+      used-again : {len : ℕ} → len ≡ size ID →
+          next-start (setting ts) (lent bytes ts) (standing (next-in at) (t + r .length) (offsets-in at) (o + len))
+          ≡ next-start (setting ts) (lent bytes ts) (standing (next-in at) (free-in at) (offsets-in at) (idle-offset-in at))
       used-again is-length =
           rw is-length
-          (sym
-          (idle-used ts bytes x from offsets o h n many slack releases (i .fits) (i .tasks-read) (d .by-end) t by-least r
-          (sym shows-it ∙ shown ts (i .fits .set)) now)
-          ∙ d .same ts x releases offsets i)
+          (sym (idle-used ts bytes at from o i (d .by-end) t by-least r (sym shows-it ∙ shown ts (i .fits .set)) now) ∙ d .same ts i)
+
+-- where idling has ended the answer is that of what starts there
+pub starts-there : {ts : Set} {bytes : List ℕ} {kept at : Rows} {d : Idled} → IdledTo ts bytes kept at d → d .readable ≡ true → {r : Answer} →
+    ((f : ℕ) → StartsAt ts bytes kept at f (d .idle) (d .start) → r ≡ next-from ts bytes at f (d .idle)) → r ≡ next-at ts bytes at
+starts-there to readable told = let here = to .read readable in told (here .0) (here .1) ∙ here .2
 
 -- an idle record that is used leads on, as some set fits
-pub decides-again : {bytes : List ℕ} {judged : Bool} {n h : ℕ} {many slack : List ℕ} {first free idle from o : ℕ}
-    (d : Decides bytes judged n h many slack first free idle from o) {t : ℕ} (is-instant : t ≡ max from first) {answer : IdleShown}
-    (shown : (ts : List Task) → SetFits ts h n many slack → answer ≡ idle-case (lent bytes ts .idle-shown o))
-    (ts : List Task) (x releases offsets : List ℕ) → Idling ts bytes h n many slack x releases offsets first → {r : Idle} → answer ≡ Shows r →
-    r .start ≡ t → {len : ℕ} → len ≡ body-length ID → Decides bytes judged n h many slack first free idle (t + r .length) (o + (len + 2))
-decides-again {bytes} {o = o} d is-instant shown ts x releases offsets i {r} shows-it now is-length = record {
-  by-end = omega (arith, used-fits d is-instant shown ts x releases offsets i shows-it now .1);
-  same = λ us y others places j. used-again d is-instant shown us y others places j shows-it now is-length;
+pub decides-again : {bytes : List ℕ} {judged : Bool} {kept at : Rows} {from o : ℕ} (d : Decides bytes judged kept at from o) {t first : ℕ}
+    (is-instant : t ≡ max from first) (is-first : first ≡ least-of (tasks-in kept) (hyperperiod-in kept) (releases-in at)) {answer : IdleShown}
+    (shown : (ts : Set) → Keeps ts kept → answer ≡ idle-case (lent bytes ts .idle-shown o)) (ts : Set) → Idling ts bytes kept at →
+    {r : Idle} → answer ≡ Shows r → r .start ≡ t → {len : ℕ} → len ≡ size ID → Decides bytes judged kept at (t + r .length) (o + len)
+decides-again {bytes} {o = o} d is-instant is-first shown ts i {r} shows-it now is-length = record {
+  by-end = omega (arith, used-fits d is-instant is-first shown ts i shows-it now .1);
+  same = λ us j. used-again d is-instant is-first shown us j shows-it now is-length;
   idles-read = λ e.
       let read = d .idles-read e in (
         read .0,

@@ -1,26 +1,25 @@
 -- What is given of a set, in the rule book's terms: jobs left, waiting tasks and the least release, by the slots of releases. Assumes nothing.
 use mathlib.Core.Path.{_≡_, refl, sym, _∙_}
-use mathlib.Core.Bool.{true, false}
+use mathlib.Core.Bool.{true}
 use mathlib.Core.List.{List, [], _∷_}
 use Prim.Native.Nat.{ℕ, suc, _+_, _*_, _-_, _/_, _≤_, _<_}
 use native.Mathlib.Nat.{div-mul-cancel}
 use native.Mathlib.Omega.{arith}
-use lib.Dec.{ltb, leb}
-use lib.ListN.{length, getD}
-use borrow.Author.Tests.{ltb-true, ltb-false, leb-true, lt-ltb, le-ltb, le-leb, lt-leb}
+use lib.Dec.{ltb}
+use lib.ListN.{length}
+use borrow.Author.Tests.{ltb-true, ltb-false, leb-true, le-leb, lt-leb}
 use Rattle.fields.specs.Body.{head₀, tail₀}
 use Rattle.rules.specs.declared.Task.{Task}
 use Rattle.rules.specs.declared.Inversion.{Inversion}
-use Rattle.rules.specs.Tasks.{task, release, jobs, hyperperiod, KeepsItsRule}
+use Rattle.rules.specs.Tasks.{task-in, Set, task, release, jobs, hyperperiod, KeepsItsRule}
 use Rattle.rules.specs.Priority.{slot, is-left, waiting, least-release}
 use Rattle.rules.specs.Judging.{inversion-in-range}
 use Rattle.rules.proofs.Cases.{by-bool, by-le, both-true}
 use Rattle.rules.proofs.PriorityLaws.{due-in-cycle}
-use Rattle.rules.proofs.Arrays.{slot-element}
 use Rattle.rules.proofs.GoodSets.{set-good}
 use Rattle.rules.proofs.Inversions.{next-waits}
-use Rattle.records.specs.Fits.{SetFits}
-use Rattle.decision.specs.Fits.{Fits}
+use Rattle.sets.specs.Kept.{Rows, tasks-in, hyperperiod-in, Keeps}
+use Rattle.decision.specs.Fits.{next-in, releases-in, Fits}
 use Rattle.decision.specs.Waiting.{least-of, come-by}
 
 -- the least release is at or before the end of the cycle
@@ -32,8 +31,8 @@ least-by-end h (t ∷ ts) x =
 
 -- the least of releases is the least release among jobs not yet started, where that of a task with none left is at the end of the cycle or later
 least-left : (h : ℕ) (ts : List Task) (x releases : List ℕ) →
-    ((i : ℕ) → i < length ts → slot x i < jobs h (task ts i) → slot releases i ≡ release (task ts i) (slot x i)) →
-    ((i : ℕ) → i < length ts → jobs h (task ts i) ≤ slot x i → h ≤ slot releases i) → least-of (length ts) h releases ≡ least-release h ts x
+    ((i : ℕ) → i < length ts → slot x i < jobs h (task-in ts i) → slot releases i ≡ release (task-in ts i) (slot x i)) →
+    ((i : ℕ) → i < length ts → jobs h (task-in ts i) ≤ slot x i → h ≤ slot releases i) → least-of (length ts) h releases ≡ least-release h ts x
 least-left h [] x releases left past = refl
 least-left h (t ∷ ts) x releases left past =
     let rest = least-left h ts (tail₀ x) (tail₀ releases) (λ i l. left (suc i) (omega arith)) (λ i l. past (suc i) (omega arith)) in
@@ -41,16 +40,29 @@ least-left h (t ∷ ts) x releases left past =
     (λ b. rw (b, least-release) (omega (arith, past 0 (omega arith) (ltb-false _ _ b), least-by-end h ts (tail₀ x))))
 
 -- the hyperperiod that is given is the one worked out
-pub set-hyperperiod : {ts : List Task} {h n : ℕ} {many slack : List ℕ} → SetFits ts h n many slack → h ≡ hyperperiod ts
-set-hyperperiod {ts} {h} fits = set-good ts h (fits .good) .1
+pub set-hyperperiod : {ts : Set} {kept : Rows} → Keeps ts kept → hyperperiod-in kept ≡ hyperperiod ts
+set-hyperperiod {ts} {kept} keeps = set-good ts (hyperperiod-in kept) (keeps .good) .1
 
-module _ {ts : List Task} {h n : ℕ} {many slack x releases : List ℕ} (fits : Fits ts h n many slack x releases) where
+module _ {ts : Set} {kept at : Rows} (fits : Fits ts kept at) where
+  -- the number of tasks and the hyperperiod, next job numbers and their releases
+  abbrev n : ℕ
+  n = tasks-in kept
+
+  abbrev h : ℕ
+  h = hyperperiod-in kept
+
+  abbrev x : List ℕ
+  x = next-in at
+
+  abbrev releases : List ℕ
+  releases = releases-in at
+
   -- and so it is with what has started
   pub is-hyperperiod : h ≡ hyperperiod ts
   is-hyperperiod = set-hyperperiod (fits .set)
 
   -- a task is one of the set's
-  pub a-task : {i : ℕ} → i < n → i < length ts
+  pub a-task : {i : ℕ} → i < n → i < length (ts .tasks)
   a-task l = omega (arith, fits .set .n-tasks)
 
   module _ (i : ℕ) (l : i < n) where
@@ -76,43 +88,18 @@ module _ {ts : List Task} {h n : ℕ} {many slack x releases : List ℕ} (fits :
         (by-bool (is-left ts h x i) (λ b. rw b) (λ b. rw b)))
 
   -- the least of the releases and the end of the cycle is the least release among jobs not yet started
-  pub least-as : least-of n h releases ≡ least-release h ts x
+  pub least-as : least-of n h releases ≡ least-release h (ts .tasks) x
   least-as =
       rw (fits .set .n-tasks)
-      (least-left h ts x releases (λ i l k. fits .releases-there i (omega (arith, fits .set .n-tasks)))
+      (least-left h (ts .tasks) x releases (λ i l k. fits .releases-there i (omega (arith, fits .set .n-tasks)))
       (λ i l k. past-cycle i (omega (arith, fits .set .n-tasks)) k))
 
--- a PV's own rule, by what is given of the set
-module _ {ts : List Task} {h n : ℕ} {many slack : List ℕ} (fits : SetFits ts h n many slack) (r : Inversion) where
-  -- its task is not below n
-  pub no-such-task : n ≤ r .task → false ≡ inversion-in-range ts h r
-  no-such-task past = rw (le-ltb (r .task) (length ts) (omega (arith, fits .n-tasks)))
-
-  module _ (a-task : r .task < n) where
-    -- its task is one of the set's
-    is-task : ltb (r .task) (length ts) ≡ true
-    is-task = lt-ltb (r .task) (length ts) (omega (arith, fits .n-tasks))
-
-    -- its job is not one of the cycle's
-    pub no-such-job : getD many (r .task) 0 ≤ r .job → false ≡ inversion-in-range ts h r
-    no-such-job past =
-        let there = fits .jobs-there (r .task) a-task in
-        rw (is-task, le-ltb (r .job) (jobs h (task ts (r .task))) (omega (arith, slot-element many (r .task))))
-
-    -- its delay is compared with D − C
-    pub its-delay : r .job < getD many (r .task) 0 → leb (r .delay) (getD slack (r .task) 0) ≡ inversion-in-range ts h r
-    its-delay before =
-        let there = fits .jobs-there (r .task) a-task in
-        let slack-is : getD slack (r .task) 0 ≡ task ts (r .task) .deadline - task ts (r .task) .time =
-        sym (slot-element slack (r .task)) ∙ fits .slack-there (r .task) a-task in
-        rw (is-task, lt-ltb (r .job) (jobs h (task ts (r .task))) (omega (arith, slot-element many (r .task))), slack-is)
-
 -- the instant that a PV in its own range names comes before the end of the cycle
-pub recorded-before : (ts : List Task) (h : ℕ) (r : Inversion) → ((j : ℕ) → KeepsItsRule (task ts j)) → inversion-in-range ts h r ≡ true →
+pub recorded-before : (ts : Set) (h : ℕ) (r : Inversion) → ((j : ℕ) → KeepsItsRule (task ts j)) → inversion-in-range ts h r ≡ true →
     release (task ts (r .task)) (r .job) + r .delay < h
 recorded-before ts h r keep e =
     let t : Task = task ts (r .task) in
-    let u = both-true (ltb (r .task) (length ts)) _ e in
+    let u = both-true (ltb (r .task) (length (ts .tasks))) _ e in
     let v = both-true (ltb (r .job) (jobs h t)) _ (u .1) in
     let in-time : r .delay ≤ t .deadline - t .time = leb-true _ _ (v .1) in
     omega (arith, keep (r .task) .takes-time, keep (r .task) .fits, due-in-cycle h (r .job) t (keep (r .task)) (ltb-true _ _ (v .0)))

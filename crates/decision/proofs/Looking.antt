@@ -10,19 +10,19 @@ use lib.Dec.{ltb, eqb}
 use lib.Count.{trailingZeros}
 use lib.ListN.{getD}
 use borrow.Author.Tests.{leb-true, eqb-true, lt-ltb, le-ltb, le-leb, eq-eqb, ne-eqb}
-use Rattle.rules.specs.declared.Task.{Task}
 use Rattle.rules.specs.declared.Inversion.{Inversion}
-use Rattle.rules.specs.Tasks.{task, release, hyperperiod, KeepsItsRule}
+use Rattle.rules.specs.Tasks.{Set, task, release, hyperperiod, KeepsItsRule}
 use Rattle.rules.specs.Setting.{lowest}
 use Rattle.rules.specs.Priority.{slot, setting}
-use Rattle.rules.specs.Decision.{falls-at, recorded}
+use Rattle.rules.specs.Decision.{falls-at, recorded, is-of}
 use Rattle.rules.specs.Marks.{PV, size}
-use Rattle.rules.specs.Offsets.{Shown, unreadable, no-record, shows, last-offset, lent, is-of, own-delay, past-own, readable}
+use Rattle.rules.specs.Offsets.{Shown, unreadable, no-record, shows, last-offset, lent, own-delay, past-own, readable}
 use Rattle.rules.proofs.Cases.{by-bool, by-option, by-eq, by-le, both-true, clash, differ}
 use Rattle.rules.proofs.Arrays.{slot-element}
 use Rattle.rules.proofs.GoodSets.{good-rules}
 use Rattle.rules.proofs.Lowest.{lowest-from-some, lowest-from-below, below-lowest, none-lowest}
-use Rattle.decision.specs.Fits.{Fits}
+use Rattle.sets.specs.Kept.{Rows, tasks-in}
+use Rattle.decision.specs.Fits.{next-in, releases-in, offsets-in, Fits}
 use Rattle.decision.specs.Shown.{no-delay, delay-number}
 use Rattle.decision.specs.Waiting.{mask-of, come-by, clear-bit}
 use Rattle.decision.specs.Next.{past-if, delays-in, is-delay, Choosing, IsChosen}
@@ -54,7 +54,7 @@ told-delay none small = le-ltb no-delay no-delay (omega arith)
 told-delay (some delay) small = lt-ltb delay no-delay (small delay refl)
 
 -- what a task's offset shows for job k of task i
-module _ (ts : List Task) (bytes : List ℕ) (keep : (j : ℕ) → KeepsItsRule (task ts j)) (i k offset : ℕ) where
+module _ (ts : Set) (bytes : List ℕ) (keep : (j : ℕ) → KeepsItsRule (task ts j)) (i k offset : ℕ) where
   -- what the offset shows
   abbrev there : Shown Inversion
   there = lent bytes ts .inversion-shown offset
@@ -108,22 +108,36 @@ module _ (ts : List Task) (bytes : List ℕ) (keep : (j : ℕ) → KeepsItsRule 
         by-own (λ delay e r. r .ends) (λ e p. let is-not : own ≡ false = rw e at is-own in differ (sym is ∙ is-not))
 
 -- a task whose record names an instant has come by then
-pub recorded-come : {ts : List Task} {h n : ℕ} {many slack x releases : List ℕ} → Fits ts h n many slack x releases →
-    (delay : ℕ → Option ℕ) (t i : ℕ) → i < n → recorded (setting ts) delay x t i ≡ true → slot releases i ≤ t
-recorded-come {ts} {x = x} fits delay t i l e = omega (arith, fits .releases-there i l, falls-after (delay i) (release (task ts i) (slot x i)) t e)
+pub recorded-come : {ts : Set} {kept at : Rows} → Fits ts kept at →
+    (delay : ℕ → Option ℕ) (t i : ℕ) → i < tasks-in kept → recorded (setting ts) delay (next-in at) t i ≡ true → slot (releases-in at) i ≤ t
+recorded-come {ts} {at = at} fits delay t i l e =
+    omega (arith, fits .releases-there i l, falls-after (delay i) (release (task ts i) (slot (next-in at) i)) t e)
 
 -- a mask that is not 0 has a bit
 pub some-left : {left : ℕ} → (left ≡ 0 → ⊥) → 1 ≤ left
 some-left {left} full = by-le 1 left (λ l. l) (λ g. absurd (full (omega arith)))
 
 -- what is left of the mask: waiting tasks alone, and every one with a record for this instant
-pub record Left (ts : List Task) (n : ℕ) (bytes x releases offsets : List ℕ) (t left : ℕ) : Type 0 where
+pub record Left (ts : Set) (bytes : List ℕ) (kept at : Rows) (t left : ℕ) : Type 0 where
   pub test : ℕ → Bool
-  pub is-left : left ≡ mask-of n test
-  pub waits : (j : ℕ) → j < n → test j ≡ true → come-by releases t j ≡ true
-  pub kept : (j : ℕ) → j < n → recorded (setting ts) (delays-in ts bytes x offsets) x t j ≡ true → test j ≡ true
+  pub is-left : left ≡ mask-of (tasks-in kept) test
+  pub waits : (j : ℕ) → j < tasks-in kept → test j ≡ true → come-by (releases-in at) t j ≡ true
+  pub has-own : (j : ℕ) → j < tasks-in kept → recorded (setting ts) (delays-in ts bytes (next-in at) (offsets-in at)) (next-in at) t j ≡ true → test j ≡ true
 
-module _ {ts : List Task} {h n : ℕ} {bytes x releases offsets : List ℕ} {t mask : ℕ} (c : Choosing ts h n bytes x releases offsets t mask) where
+module _ {ts : Set} {bytes : List ℕ} {kept at : Rows} {t mask : ℕ} (c : Choosing ts bytes kept at t mask) where
+  -- the number of tasks, next job numbers, their releases and the tasks' offsets
+  abbrev n : ℕ
+  n = tasks-in kept
+
+  abbrev x : List ℕ
+  x = next-in at
+
+  abbrev releases : List ℕ
+  releases = releases-in at
+
+  abbrev offsets : List ℕ
+  offsets = offsets-in at
+
   -- the delay that each task's offset shows for its next job
   abbrev delay : ℕ → Option ℕ
   delay = delays-in ts bytes x offsets
@@ -147,12 +161,12 @@ module _ {ts : List Task} {h n : ℕ} {bytes x releases offsets : List ℕ} {t m
   since-small r = omega (arith, c .before-end, c .fits .set .good .short)
 
   -- at first the whole mask is left
-  pub left-all : Left ts n bytes x releases offsets t mask
+  pub left-all : Left ts bytes kept at t mask
   left-all = record {
     test = come-by releases t;
     is-left = c .is-mask;
     waits = λ j l e. e;
-    kept = λ j l e. le-leb (slot releases j) t (recorded-come (c .fits) delay t j l e);
+    has-own = λ j l e. le-leb (slot releases j) t (recorded-come (c .fits) delay t j l e);
   }
 
   -- the number that is told of a task's delay
@@ -185,7 +199,7 @@ module _ {ts : List Task} {h n : ℕ} {bytes x releases offsets : List ℕ} {t m
           c .fits .set .good .short,
         ))
 
-  module _ {left : ℕ} (s : Left ts n bytes x releases offsets t left) where
+  module _ {left : ℕ} (s : Left ts bytes kept at t left) where
     -- where none is left, none has a record for this instant
     none-left : left ≡ 0 → lowest n now ≡ none
     none-left e =
@@ -193,13 +207,13 @@ module _ {ts : List Task} {h n : ℕ} {bytes x releases offsets : List ℕ} {t m
         (λ j g.
         let l : j < n = omega (arith, lowest-from-below n 0 now j g) in
         differ
-        (sym (s .kept j l (lowest-from-some n 0 now j g))
+        (sym (s .has-own j l (lowest-from-some n 0 now j g))
         ∙ none-lowest n 0 (s .test) (mask-empty n (s .test) few (s .is-left) e) j (omega arith) (omega arith)))
 
     -- then the lowest of the mask is chosen
     pub chosen-lowest : left ≡ 0 → {first number : ℕ} → first ≡ trailingZeros 16 mask → first < n →
         number ≡ delay-number (own-delay (lent bytes ts .inversion-shown (getD offsets first 0)) first (getD x first 0)) →
-        IsChosen ts n bytes x offsets t mask (record { task = first; own = ltb number no-delay })
+        IsChosen ts bytes kept at t mask (record { task = first; own = ltb number no-delay })
     chosen-lowest e {first} is-first l is-number =
         record { is-task = is-first ∙ sym (rw (none-left e)); is-own = λ k. number-own l is-number }
 
@@ -238,7 +252,7 @@ module _ {ts : List Task} {h n : ℕ} {bytes x releases offsets : List ℕ} {t m
           by-le i j
           (λ above. by-eq j i (λ q. g ∙ ap some q) (λ q. differ (sym here ∙ below-lowest n 0 now j g i (omega arith) (omega arith))))
           (λ below. differ
-          (sym (s .kept j l (lowest-from-some n 0 now j g)) ∙ below-lowest n 0 (s .test) i found j (omega arith) below)))
+          (sym (s .has-own j l (lowest-from-some n 0 now j g)) ∙ below-lowest n 0 (s .test) i found j (omega arith) below)))
 
       -- whether its offset shows a record for this instant is told
       module _ {told : Bool} (is-told : told ≡ eqb (delay-number (own-delay (lent bytes ts .inversion-shown (getD offsets i 0)) i (getD x i 0)))
@@ -248,7 +262,7 @@ module _ {ts : List Task} {h n : ℕ} {bytes x releases offsets : List ℕ} {t m
         told-now = is-told ∙ number-now left-below refl left-come
 
         -- with one it is chosen
-        pub chosen-shown : told ≡ true → IsChosen ts n bytes x offsets t mask (record { task = i; own = true })
+        pub chosen-shown : told ≡ true → IsChosen ts bytes kept at t mask (record { task = i; own = true })
         chosen-shown e =
             let here : now i ≡ true = sym told-now ∙ e in
             record {
@@ -257,7 +271,7 @@ module _ {ts : List Task} {h n : ℕ} {bytes x releases offsets : List ℕ} {t m
             }
 
         -- without one it is left out
-        pub left-unshown : told ≡ false → Left ts n bytes x releases offsets t (clear-bit left i)
+        pub left-unshown : told ≡ false → Left ts bytes kept at t (clear-bit left i)
         left-unshown e =
             let not-here : now i ≡ false = sym told-now ∙ e in
             record {
@@ -265,7 +279,7 @@ module _ {ts : List Task} {h n : ℕ} {bytes x releases offsets : List ℕ} {t m
               is-left = ap (λ (m : ℕ). clear-bit m i) (s .is-left) ∙ mask-clear n i (s .test) few left-slot;
               waits = λ j l e. by-eq j i (λ q. let p : other-than i (s .test) i ≡ true = rw q at e in differ (sym p ∙ same-fails i (s .test)))
                   (λ q. s .waits j l (sym (other-kept i (s .test) j q) ∙ e));
-              kept = λ j l e. by-eq j i (λ q. differ (sym e ∙ ap now q ∙ not-here)) (λ q. other-kept i (s .test) j q ∙ s .kept j l e);
+              has-own = λ j l e. by-eq j i (λ q. differ (sym e ∙ ap now q ∙ not-here)) (λ q. other-kept i (s .test) j q ∙ s .has-own j l e);
             }
 
       -- fewer bits are left
@@ -275,7 +289,7 @@ module _ {ts : List Task} {h n : ℕ} {bytes x releases offsets : List ℕ} {t m
           omega (arith, is-lowest, left-slot)
 
   -- no task waits
-  pub chosen-none : mask ≡ 0 → IsChosen ts n bytes x offsets t mask (record { task = 16; own = false })
+  pub chosen-none : mask ≡ 0 → IsChosen ts bytes kept at t mask (record { task = 16; own = false })
   chosen-none e = record {
     is-task = sym (rw (none-left left-all e) (ap (trailingZeros 16) e ∙ zero-empty 16));
     is-own = λ l. absurd (omega (arith, few));

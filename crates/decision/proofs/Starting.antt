@@ -9,27 +9,29 @@ use lib.Dec.{leb}
 use lib.Count.{trailingZeros}
 use lib.ListN.{length, getD}
 use borrow.Author.Tests.{leb-true, le-ltb, le-leb, lt-leb}
-use Rattle.rules.specs.declared.Task.{Task}
-use Rattle.rules.specs.Tasks.{task, hyperperiod, KeepsItsRule}
+use Rattle.rules.specs.Tasks.{Set, task, hyperperiod, KeepsItsRule}
 use Rattle.rules.specs.Setting.{lowest}
-use Rattle.rules.specs.Priority.{slot, late, waiting, entry-breaks, by-priority, setting}
+use Rattle.rules.specs.Priority.{slot, late, waiting, entry-breaks, setting}
 use Rattle.rules.specs.Decision.{Choice, start-task, recorded}
 use Rattle.rules.specs.DecisionRule.{Waiting}
 use Rattle.rules.specs.Irregularities.{runs}
 use Rattle.rules.specs.Marks.{PV, size}
-use Rattle.rules.specs.Offsets.{last-offset, lent, past-own, standing, all-readable}
+use Rattle.rules.specs.Offsets.{last-offset, lent, past-own, idle-now, standing, all-readable}
 use Rattle.rules.proofs.Cases.{by-bool, by-option, by-eq, by-le, by-nat, both-in, clash, differ}
-use Rattle.rules.proofs.PriorityLaws.{keeps-rules, breaks-none, ends-in-cycle, setting-laws}
+use Rattle.rules.proofs.PriorityLaws.{keeps-rules, breaks-none, waits-later, ends-in-cycle, setting-laws}
+use Rattle.rules.proofs.Steps.{decide-waits}
 use Rattle.rules.proofs.Arrays.{slot-element}
 use Rattle.rules.proofs.GoodSets.{good-rules}
 use Rattle.rules.proofs.Lowest.{lowest-from-some, lowest-from-below, below-lowest, none-lowest}
 use Rattle.rules.proofs.LateJobs.{waits-keeps, ends-late}
 use Rattle.rules.proofs.Inversions.{lower-waits, not-run}
 use Rattle.rules.proofs.Starts.{lowest-from-same}
-use Rattle.rules.proofs.NextTurns.{shown-choice, idle-ends, next-starts, next-refused, by-one-turn}
+use Rattle.rules.proofs.NextTurns.{shown-choice, idle-ends, next-starts, next-refused, next-past, by-one-turn}
 use Rattle.decision.specs.declared.NextStart.{NextStart as Answer}
 use Rattle.decision.specs.declared.NextStart.the-variants.{Starts, Stuck}
 use Rattle.decision.specs.declared.Chosen.{Chosen}
+use Rattle.sets.specs.Kept.{Rows, tasks-in, hyperperiod-in, slack-in}
+use Rattle.decision.specs.Fits.{next-in, releases-in, offsets-in}
 use Rattle.decision.specs.Waiting.{mask-of, come-by, clear-bit, task-number}
 use Rattle.decision.specs.Next.{inverts, next-case, next-of, past-if, delays-in, choice-of, Choosing, IsChosen, StartsAt}
 use Rattle.decision.proofs.Masks.{other-than, same-fails, other-kept, lowest-other, lowest-number}
@@ -37,8 +39,26 @@ use Rattle.decision.proofs.Fitting.{is-hyperperiod, a-task, left-before
 use Rattle.decision.proofs.Looking.{recorded-come, past-if-own, own-room}
 
 -- a decision that uses no idle record, before the end of the cycle or at it
-module _ {ts : List Task} {bytes x : List ℕ} {f h n : ℕ} {slack releases offsets : List ℕ} {o t : ℕ}
-    (s : StartsAt ts bytes x f h n slack releases offsets o t) where
+module _ {ts : Set} {bytes : List ℕ} {kept at : Rows} {f o t : ℕ} (s : StartsAt ts bytes kept at f o t) where
+  -- the number of tasks and the hyperperiod, D − C, next job numbers, their releases and the tasks' offsets
+  abbrev n : ℕ
+  n = tasks-in kept
+
+  abbrev h : ℕ
+  h = hyperperiod-in kept
+
+  abbrev slack : List ℕ
+  slack = slack-in kept
+
+  abbrev x : List ℕ
+  x = next-in at
+
+  abbrev releases : List ℕ
+  releases = releases-in at
+
+  abbrev offsets : List ℕ
+  offsets = offsets-in at
+
   -- the hyperperiod, as the rule book works it out
   abbrev H : ℕ
   H = hyperperiod ts
@@ -77,24 +97,27 @@ module _ {ts : List Task} {bytes x : List ℕ} {f h n : ℕ} {slack releases off
       by-one-turn bytes ts (standing x f offsets o) t (s .is-instant) (λ a. differ (sym all-read ∙ a))
       (λ l a d. absurd (omega (arith, same, idle-ends bytes ts (standing x f offsets o) t (s .is-instant) l d)))
       (λ i a d e.
-      let kept = keeps-rules ts H x t i t (setting-laws ts H keep .replay-refuses x t i t e) in
-      absurd (omega (arith, same, keep i .takes-time, ends-in-cycle ts H keep x t i t kept)))
+      let keeps = keeps-rules ts H x t i t (setting-laws ts H keep .replay-refuses x t i t e) in
+      absurd (omega (arith, same, keep i .takes-time, ends-in-cycle ts H keep x t i t keeps)))
       (λ i number a d e.
       by-nat (entry-breaks ts H x t i t) (λ z. let g : late 0 ≡ suc number = sym (ap late z) ∙ e in clash (cc)) (λ m z. refused i d (ap late z)))
+      (λ r a d.
+      let later : t < r = waits-later ts H x t r (decide-waits (setting ts) x t (idle-now (lent bytes ts .idle-shown o) t) delay r d) in
+      ap (next-case ts bytes x offsets) (sym (next-past bytes ts (standing x f offsets o) t (s .is-instant) r a d (omega (arith, same)))))
 
   module _ (before : t < h) where
     -- the lowest task with a record for this instant
-    recorded-same : lowest (length ts) (recorded (setting ts) delay x t) ≡ lowest n (recorded (setting ts) delay x t)
+    recorded-same : lowest (length (ts .tasks)) (recorded (setting ts) delay x t) ≡ lowest n (recorded (setting ts) delay x t)
     recorded-same = rw (s .fits .set .n-tasks)
 
     -- a task waits from its release on
-    waits-same : (j : ℕ) → j < length ts → waiting ts H x t j ≡ come-by releases t j
+    waits-same : (j : ℕ) → j < length (ts .tasks) → waiting ts H x t j ≡ come-by releases t j
     waits-same j l = rw same at (waits-as (s .fits) j (omega (arith, s .fits .set .n-tasks)) t before)
 
     -- the lowest waiting task
-    waiting-same : lowest (length ts) (waiting ts H x t) ≡ lowest n (come-by releases t)
+    waiting-same : lowest (length (ts .tasks)) (waiting ts H x t) ≡ lowest n (come-by releases t)
     waiting-same =
-        rw (s .fits .set .n-tasks) (lowest-from-same (length ts) 0 (waiting ts H x t) (come-by releases t) (λ j l. waits-same j (omega arith)))
+        rw (s .fits .set .n-tasks) (lowest-from-same (length (ts .tasks)) 0 (waiting ts H x t) (come-by releases t) (λ j l. waits-same j (omega arith)))
 
     -- 16 tasks at most
     few : n ≤ 16
@@ -102,10 +125,8 @@ module _ {ts : List Task} {bytes x : List ℕ} {f h n : ℕ} {slack releases off
 
     module _ {mask : ℕ} (is-mask : mask ≡ mask-of n (come-by releases t)) where
       -- its task is looked for
-      pub choosing : Choosing ts h n bytes x releases offsets t mask
+      pub choosing : Choosing ts bytes kept at t mask
       choosing = record {
-        many = s .many;
-        slack = slack;
         fits = s .fits;
         tasks-read = s .tasks-read;
         before-end = before;
@@ -118,7 +139,7 @@ module _ {ts : List Task} {bytes x : List ℕ} {f h n : ℕ} {slack releases off
 
       -- it has come and is the rule book's choice; or there is none
       by-chosen : {A : Type 0} → ((i : ℕ) → looked-for ≡ i → i < n → slot releases i ≤ t → decided ≡ start-task i → A) →
-          (looked-for ≡ 16 → decided ≡ start-task (length ts) → A) → A
+          (looked-for ≡ 16 → decided ≡ start-task (length (ts .tasks)) → A) → A
       by-chosen starts none-come =
           by-option (lowest n (recorded (setting ts) delay x t))
           (λ e.
@@ -132,12 +153,12 @@ module _ {ts : List Task} {bytes x : List ℕ} {f h n : ℕ} {slack releases off
           starts i (rw e) below (recorded-come (s .fits) delay t i below (lowest-from-some n 0 (recorded (setting ts) delay x t) i e))
           (rw (s .no-idle, recorded-same, e)))
 
-      module _ {c : Chosen} (is-chosen : IsChosen ts n bytes x offsets t mask c) where
+      module _ {c : Chosen} (is-chosen : IsChosen ts bytes kept at t mask c) where
         -- no task is chosen
         pub none-chosen : n ≤ c .task → Stuck 18 ≡ answered
         none-chosen past =
             by-chosen (λ i q l come d. absurd (omega (arith, is-chosen .is-task)))
-            (λ q d. refused (length ts) d (rw (le-ltb (length ts) (length ts) (omega arith))))
+            (λ q d. refused (length (ts .tasks)) d (rw (le-ltb (length (ts .tasks)) (length (ts .tasks)) (omega arith))))
 
         -- the task that is chosen
         abbrev i : ℕ
@@ -203,7 +224,7 @@ module _ {ts : List Task} {bytes x : List ℕ} {f h n : ℕ} {slack releases off
               -- where no lower one has come, the task is run
               is-run : ((j : ℕ) → j < i → other-than i (come-by releases t) j ≡ true → ⊥) → false ≡ inverts ts x t i
               is-run none-lower =
-                  by-bool (runs (by-priority ts H x t) i) (λ b. rw b)
+                  by-bool (runs (setting ts .baseline x t) i) (λ b. rw b)
                   (λ b.
                   let w = lower-waits ts H x t i (a-task (s .fits) l) (waits-same i (a-task (s .fits) l) ∙ le-leb (slot releases i) t come) b in
                   absurd
@@ -224,7 +245,7 @@ module _ {ts : List Task} {bytes x : List ℕ} {f h n : ℕ} {slack releases off
           chosen-starts in-time {inversion} {lower} is-inversion is-lower =
               by-waiting
               (λ come d.
-              let kept = waits-keeps ts H x t i (chosen-waits come)
+              let keeps = waits-keeps ts H x t i (chosen-waits come)
               (λ over.
               omega (
                 arith,
@@ -240,4 +261,4 @@ module _ {ts : List Task} {bytes x : List ℕ} {f h n : ℕ} {slack releases off
               let inverted : leb lower i ≡ inverts ts x t i = rw is-lower (lower-inverts come) in
               rw (past, inverted)
               (ap (next-case ts bytes x offsets)
-              (sym (next-starts bytes ts (standing x f offsets o) t (s .is-instant) i all-read d (ap late (breaks-none ts H x t i t kept))))))
+              (sym (next-starts bytes ts (standing x f offsets o) t (s .is-instant) i all-read d (ap late (breaks-none ts H x t i t keeps))))))

@@ -10,16 +10,16 @@ use lib.Dec.{leb, eqb}
 use lib.ListN.{length, getD, drop}
 use lib.Seq.{getD-drop}
 use borrow.Author.Tests.{leb-true, le-leb, eqb-true, eq-eqb, ne-eqb}
-use Rattle.rules.specs.declared.Task.{Task}
 use Rattle.rules.specs.declared.Idle.{Idle}
 use Rattle.rules.specs.declared.Inversion.{Inversion}
 use Rattle.rules.specs.declared.Place.{Place}
-use Rattle.rules.specs.Tasks.{both, hyperperiod}
+use Rattle.rules.specs.Tasks.{Set, both, hyperperiod}
 use Rattle.rules.specs.Judging.{idle-in-range, inversion-in-range}
 use Rattle.rules.specs.Marks.{Mark, TS, TK, SL, ID, PV, EN, row, marks, size, body-length, mark-in, values}
 use Rattle.rules.specs.Image.{Record, record-of, to-idle, to-inversion}
 use Rattle.rules.specs.Framing.{allowed, if-allowed, mark-at}
-use Rattle.rules.specs.Offsets.{Shown, unreadable, no-record, shows, last-offset, whole-record, record-at, shown-if, idle-by, inversion-by, lent, is-of, own-delay, readable}
+use Rattle.rules.specs.Offsets.{Shown, unreadable, no-record, shows, last-offset, whole-record, record-at, shown-if, idle-by, inversion-by, lent, own-delay, readable}
+use Rattle.rules.specs.Decision.{is-of}
 use Rattle.rules.proofs.Cases.{by-bool, by-option, by-eq, both-true, both-in, clash, differ}
 use Rattle.rules.proofs.Marked.{mark-found, found-allowed}
 use Rattle.images.specs.Table.{stands-at}
@@ -136,7 +136,7 @@ inversion-unread no-record e = clash (cc)
 inversion-unread (shows r after) e = clash (cc)
 
 -- what the ID offset and a task's offset show
-module _ (ts : List Task) (bytes : List ℕ) (o : ℕ) where
+module _ (ts : Set) (bytes : List ℕ) (o : ℕ) where
   -- an idle record, as the ID offset
   abbrev idle-there : Shown Idle
   idle-there = lent bytes ts .idle-shown o

@@ -1,14 +1,36 @@
--- What the next start is given of a set: numbers in arrays of sixteen slots. Assumes nothing.
+-- Where replay stands: rows of sixteen slots, beside what is kept of the set. Assumes nothing.
 use mathlib.Core.Path.{_≡_}
-use mathlib.Core.List.{List}
+use mathlib.Core.List.{List, []}
 use Prim.Native.Nat.{ℕ, _≤_, _<_}
-use Rattle.rules.specs.declared.Task.{Task}
-use Rattle.rules.specs.Tasks.{task, release, jobs}
+use lib.ListN.{getD}
+use Rattle.rules.specs.Tasks.{Set, task, release, jobs}
 use Rattle.rules.specs.Priority.{slot}
-use Rattle.records.specs.Fits.{SetFits}
+use Rattle.sets.specs.Kept.{Rows, tasks-in, hyperperiod-in, Keeps}
 
--- what has started, beside what is kept of the set: next job numbers, and the release of each task's next job, which is the hyperperiod or later where no job is left
-pub record Fits (ts : List Task) (h n : ℕ) (many slack next releases : List ℕ) : Type 0 where
-  pub set : SetFits ts h n many slack
-  pub counts : (i : ℕ) → i < n → slot next i ≤ jobs h (task ts i)
-  pub releases-there : (i : ℕ) → i < n → slot releases i ≡ release (task ts i) (slot next i)
+-- the row of instants, and in it that from which the processor is free, and the ID offset
+abbrev pub instants-in : Rows → List ℕ
+instants-in at = getD at 0 []
+
+abbrev pub free-in : Rows → ℕ
+free-in at = getD (instants-in at) 0 0
+
+abbrev pub idle-offset-in : Rows → ℕ
+idle-offset-in at = getD (instants-in at) 1 0
+
+-- the rows with a slot for each task: the number of its next job, that job's release, and the task's offset
+abbrev pub next-in : Rows → List ℕ
+next-in at = getD at 1 []
+
+abbrev pub releases-in : Rows → List ℕ
+releases-in at = getD at 2 []
+
+abbrev pub offsets-in : Rows → List ℕ
+offsets-in at = getD at 3 []
+
+-- rows that fit what is kept of the set: next job numbers, and the release of each task's next job, which is the hyperperiod or later where no job is left;
+-- and the processor is free by the end of the cycle
+pub record Fits (ts : Set) (kept at : Rows) : Type 0 where
+  pub set : Keeps ts kept
+  pub counts : (i : ℕ) → i < tasks-in kept → slot (next-in at) i ≤ jobs (hyperperiod-in kept) (task ts i)
+  pub releases-there : (i : ℕ) → i < tasks-in kept → slot (releases-in at) i ≡ release (task ts i) (slot (next-in at) i)
+  pub by-end : free-in at ≤ hyperperiod-in kept

@@ -5,11 +5,16 @@ use images::ID;
 use images::PV;
 use images::body_of;
 use images::row_of;
+use images::size_of;
 use records::idle_keeps;
 use records::inversion_keeps;
 use rules::Idle;
 use rules::Inversion;
 use rules::LARGEST;
+use sets::FIGURES;
+use sets::HYPERPERIOD;
+use sets::SLACK;
+use sets::TASKS;
 ghost use mathlib.Core.Path.{_≡_};
 ghost use mathlib.Core.List.{List};
 ghost use mathlib.Core.Bool.{true};
@@ -17,15 +22,29 @@ ghost use Prim.Native.Nat.{ℕ, _+_, max, min, _≤_, _<_};
 ghost use lib.Dec.{eqb};
 ghost use lib.Count.{trailingZeros};
 ghost use lib.ListN.{length};
-ghost use Rattle.rules.specs.declared.Task.{Task};
+ghost use Rattle.rules.specs.Tasks.{Set};
 ghost use Rattle.rules.specs.Marks as book-marks;
 ghost use Rattle.rules.specs.Offsets.{last-offset, lent, readable, tasks-readable, own-delay};
 ghost use Rattle.images.specs.Table.{mark-of};
-ghost use Rattle.records.specs.Fits.{SetFits};
-ghost use Rattle.decision.specs.Fits.{Fits};
+ghost use Rattle.sets.specs.Kept.{Rows, tasks-in, Keeps};
+ghost use Rattle.decision.specs.Fits.{idle-offset-in, Fits};
 ghost use Rattle.decision.specs.Shown.{whole-at, idle-case, inversion-case, no-delay, delay-number};
 ghost use Rattle.decision.specs.Waiting.{mask-of, come-by, set-bit, clear-bit, least-of};
-ghost use Rattle.decision.specs.Next.{IdlesRead, AllRead, next-of, FindsNext, past-if, Choosing, IsChosen, StartsAt, Idling, IdledTo};
+ghost use Rattle.decision.specs.Next.{IdlesRead, AllRead, next-from, FindsNext, past-if, Choosing, IsChosen, StartsAt, Idling, IdledTo};
+
+// Where replay stands, in rows of sixteen slots: instants, and of each task the number of its next job, that job's release and the task's offset.
+pub const INSTANTS: usize = 0;
+
+pub const NEXT: usize = 1;
+
+pub const RELEASE: usize = 2;
+
+pub const OFFSETS: usize = 3;
+
+// The slots of its instants: that from which the processor is free, and the ID offset.
+pub const FREE: usize = 0;
+
+pub const IDLE: usize = 1;
 
 // The last offset: every record ends at or before this byte, so none begins there.
 pub const LAST_OFFSET: u32 = LARGEST;
@@ -48,7 +67,7 @@ fn whole(image: &[u8], o: u32, k: usize) -> bool
     ensures { λ r. ⌜ r ≡ whole-at (now (image .entry)) o (mark-of k) ⌝ }
 {
     let at = o as usize;
-    if readable_to(image) < at + (body_of(k) + 2) {
+    if readable_to(image) < at + size_of(k) {
         return false;
     }
     images::stands(image, at, k)
@@ -63,8 +82,8 @@ pub enum IdleShown {
 
 // What an ID offset which can be read shows. There stands an ID, PV or EN, and the first byte tells an ID from the others.
 fn idle_judged(image: &[u8], o: u32) -> IdleShown
-    requires { ⌜ ((ts : List Task) × (readable (lent (now image) ts .idle-shown o) ≡ true)) ⌝ }
-    ensures { λ r. ⌜ ((ts : List Task) → readable (lent (now (image .entry)) ts .idle-shown o) ≡ true →
+    requires { ⌜ ((ts : Set) × (readable (lent (now image) ts .idle-shown o) ≡ true)) ⌝ }
+    ensures { λ r. ⌜ ((ts : Set) → readable (lent (now (image .entry)) ts .idle-shown o) ≡ true →
         r ≡ idle-case (lent (now (image .entry)) ts .idle-shown o)) ⌝ }
 {
     let at = o as usize;
@@ -77,20 +96,10 @@ fn idle_judged(image: &[u8], o: u32) -> IdleShown
 
 // At the ID offset stands a whole ID, PV or EN; a record outside its own range is unreadable. Where the image's records were judged and the offset
 // stands among them, it can be read, and the first byte tells.
-fn idle_shown(
-    image: &[u8],
-    judged: bool,
-    n: usize,
-    h: u32,
-    jobs: &[u32; 16],
-    slack: &[u32; 16],
-    o: u32,
-) -> IdleShown
-    requires few { ⌜ n ≤ 16 ⌝ }
-    requires read { ⌜ (judged ≡ true → ((ts : List Task) × SetFits ts h n (now jobs) (now slack)
-        × (readable (lent (now image) ts .idle-shown o) ≡ true))) ⌝ }
-    ensures { λ r. ⌜ ((ts : List Task) → SetFits ts h n (now (jobs .entry)) (now (slack .entry)) →
-        r ≡ idle-case (lent (now (image .entry)) ts .idle-shown o)) ⌝ }
+fn idle_shown(image: &[u8], judged: bool, kept: &[[u32; 16]; 5], o: u32) -> IdleShown
+    requires few { ⌜ tasks-in (now kept) ≤ 16 ⌝ }
+    requires read { ⌜ (judged ≡ true → ((ts : Set) × Keeps ts (now kept) × (readable (lent (now image) ts .idle-shown o) ≡ true))) ⌝ }
+    ensures { λ r. ⌜ ((ts : Set) → Keeps ts (now (kept .entry)) → r ≡ idle-case (lent (now (image .entry)) ts .idle-shown o)) ⌝ }
 {
     if judged {
         return idle_judged(image, o);
@@ -98,14 +107,14 @@ fn idle_shown(
     let at = o as usize;
     if whole(image, o, ID) {
         let r = images::idle_body(images::part(image, at + 2, body_of(ID)));
-        if idle_keeps(h, r) {
+        if idle_keeps(kept[FIGURES][HYPERPERIOD], r) {
             return IdleShown::Shows(r);
         }
         return IdleShown::Unreadable;
     }
     if whole(image, o, PV) {
         let r = images::inversion_body(images::part(image, at + 2, body_of(PV)));
-        if inversion_keeps(n, jobs, slack, r) {
+        if inversion_keeps(kept, r) {
             return IdleShown::NoRecord;
         }
         return IdleShown::Unreadable;
@@ -124,21 +133,15 @@ pub enum InversionShown {
 }
 
 // At a task's offset stands a whole PV or EN.
-fn inversion_shown(
-    image: &[u8],
-    n: usize,
-    jobs: &[u32; 16],
-    slack: &[u32; 16],
-    offset: u32,
-) -> InversionShown
-    requires { ⌜ n ≤ 16 ⌝ }
-    ensures { λ r. ⌜ ((ts : List Task) (h : ℕ) → SetFits ts h n (now (jobs .entry)) (now (slack .entry)) →
+fn inversion_shown(image: &[u8], kept: &[[u32; 16]; 5], offset: u32) -> InversionShown
+    requires { ⌜ tasks-in (now kept) ≤ 16 ⌝ }
+    ensures { λ r. ⌜ ((ts : Set) → Keeps ts (now (kept .entry)) →
         r ≡ inversion-case (lent (now (image .entry)) ts .inversion-shown offset)) ⌝ }
 {
     let at = offset as usize;
     if whole(image, offset, PV) {
         let r = images::inversion_body(images::part(image, at + 2, body_of(PV)));
-        if inversion_keeps(n, jobs, slack, r) {
+        if inversion_keeps(kept, r) {
             return InversionShown::Shows(r);
         }
         return InversionShown::Unreadable;
@@ -151,29 +154,23 @@ fn inversion_shown(
 
 // Can all tasks' offsets be read? They are the same at every decision on the way to one start: idling moves the ID offset alone. Where the image's
 // records were judged and the offsets stand among them, they can be.
-fn tasks_readable(
-    image: &[u8],
-    judged: bool,
-    n: usize,
-    jobs: &[u32; 16],
-    slack: &[u32; 16],
-    offsets: &[u32; 16],
-) -> bool
-    requires few { ⌜ n ≤ 16 ⌝ }
-    requires read { ⌜ (judged ≡ true → ((ts : List Task) × (h : ℕ) × SetFits ts h n (now jobs) (now slack)
-        × (tasks-readable (lent (now image) ts) n (now offsets) ≡ true))) ⌝ }
-    ensures { λ r. ⌜ ((ts : List Task) (h : ℕ) → SetFits ts h n (now (jobs .entry)) (now (slack .entry)) →
-        r ≡ tasks-readable (lent (now (image .entry)) ts) n (now (offsets .entry))) ⌝ }
+fn tasks_readable(image: &[u8], judged: bool, kept: &[[u32; 16]; 5], offsets: &[u32; 16]) -> bool
+    requires few { ⌜ tasks-in (now kept) ≤ 16 ⌝ }
+    requires read { ⌜ (judged ≡ true → ((ts : Set) × Keeps ts (now kept)
+        × (tasks-readable (lent (now image) ts) (tasks-in (now kept)) (now offsets) ≡ true))) ⌝ }
+    ensures { λ r. ⌜ ((ts : Set) → Keeps ts (now (kept .entry)) →
+        r ≡ tasks-readable (lent (now (image .entry)) ts) (tasks-in (now (kept .entry))) (now (offsets .entry))) ⌝ }
 {
     if judged {
         return true;
     }
+    let n = kept[FIGURES][TASKS] as usize;
     let mut i: usize = 0;
     'tasks: loop {
         if n <= i {
             break 'tasks true;
         }
-        match inversion_shown(image, n, jobs, slack, offsets[i]) {
+        match inversion_shown(image, kept, offsets[i]) {
             InversionShown::Unreadable => {
                 break 'tasks false;
             }
@@ -251,8 +248,8 @@ fn waiting(n: usize, release: &[u32; 16], t: u32) -> u16
 // The delay that an offset which can be read shows for a job of a task; NO_DELAY where it shows no record of that job. There stands a PV or EN, and their
 // first bytes differ.
 fn own_delay(image: &[u8], offset: u32, task: u32, job: u32) -> u32
-    requires { ⌜ ((ts : List Task) × (readable (lent (now image) ts .inversion-shown offset) ≡ true)) ⌝ }
-    ensures { λ r. ⌜ ((ts : List Task) → readable (lent (now (image .entry)) ts .inversion-shown offset) ≡ true →
+    requires { ⌜ ((ts : Set) × (readable (lent (now image) ts .inversion-shown offset) ≡ true)) ⌝ }
+    ensures { λ r. ⌜ ((ts : Set) → readable (lent (now (image .entry)) ts .inversion-shown offset) ≡ true →
         r ≡ delay-number (own-delay (lent (now (image .entry)) ts .inversion-shown offset) task job)) ⌝ }
 {
     let at = offset as usize;
@@ -271,9 +268,9 @@ fn own_delay(image: &[u8], offset: u32, task: u32, job: u32) -> u32
 
 // Does an offset which can be read show the record of a job of a task, with this delay?
 fn shows_delay(image: &[u8], offset: u32, task: u32, job: u32, delay: u32) -> bool
-    requires shown { ⌜ ((ts : List Task) × (readable (lent (now image) ts .inversion-shown offset) ≡ true)) ⌝ }
+    requires shown { ⌜ ((ts : Set) × (readable (lent (now image) ts .inversion-shown offset) ≡ true)) ⌝ }
     requires a_delay { ⌜ delay < no-delay ⌝ }
-    ensures { λ r. ⌜ ((ts : List Task) → readable (lent (now (image .entry)) ts .inversion-shown offset) ≡ true →
+    ensures { λ r. ⌜ ((ts : Set) → readable (lent (now (image .entry)) ts .inversion-shown offset) ≡ true →
         r ≡ eqb (delay-number (own-delay (lent (now (image .entry)) ts .inversion-shown offset) task job)) delay) ⌝ }
 {
     let at = offset as usize;
@@ -297,19 +294,14 @@ pub struct Chosen {
 }
 
 // Rules (2) and (3): the lowest task with a record for this instant, else the lowest waiting one. A task with such a record waits.
-fn chosen_task(
-    image: &[u8],
-    mask: u16,
-    next: &[u32; 16],
-    release: &[u32; 16],
-    offsets: &[u32; 16],
-    t: u32,
-) -> Chosen
-    requires { ⌜ ((ts : List Task) × (h n : ℕ) × Choosing ts h n (now image) (now next) (now release) (now offsets) t mask) ⌝ }
-    ensures { λ r. ⌜ ((ts : List Task) (h n : ℕ) →
-        Choosing ts h n (now (image .entry)) (now (next .entry)) (now (release .entry)) (now (offsets .entry)) t mask →
-        IsChosen ts n (now (image .entry)) (now (next .entry)) (now (offsets .entry)) t mask r) ⌝ }
+fn chosen_task(image: &[u8], at: &[[u32; 16]; 4], mask: u16, t: u32) -> Chosen
+    requires { ⌜ ((ts : Set) × (kept : Rows) × Choosing ts (now image) kept (now at) t mask) ⌝ }
+    ensures { λ r. ⌜ ((ts : Set) (kept : Rows) → Choosing ts (now (image .entry)) kept (now (at .entry)) t mask →
+        IsChosen ts (now (image .entry)) kept (now (at .entry)) t mask r) ⌝ }
 {
+    let next = &at[NEXT];
+    let release = &at[RELEASE];
+    let offsets = &at[OFFSETS];
     if mask == 0 {
         return Chosen {
             task: 16,
@@ -356,7 +348,7 @@ fn own_offset(own: bool, offset: u32) -> u32
     ensures { λ r. ⌜ r ≡ past-if own offset ⌝ }
 {
     if own {
-        return offset + ((body_of(PV) + 2) as u32);
+        return offset + (size_of(PV) as u32);
     }
     offset
 }
@@ -365,25 +357,24 @@ fn own_offset(own: bool, offset: u32) -> u32
 // unless all that still wait have higher numbers.
 fn start_at(
     image: &[u8],
-    n: usize,
-    h: u32,
-    slack: &[u32; 16],
-    next: &[u32; 16],
-    release: &[u32; 16],
-    offsets: &[u32; 16],
+    kept: &[[u32; 16]; 5],
+    at: &[[u32; 16]; 4],
     idle: u32,
     t: u32,
 ) -> NextStart
-    requires { ⌜ ((ts : List Task) × (f : ℕ) × StartsAt ts (now image) (now next) f h n (now slack) (now release) (now offsets) idle t) ⌝ }
-    ensures { λ r. ⌜ ((ts : List Task) (f : ℕ) →
-        StartsAt ts (now (image .entry)) (now (next .entry)) f h n (now (slack .entry)) (now (release .entry)) (now (offsets .entry)) idle t →
-        r ≡ next-of ts (now (image .entry)) (now (next .entry)) f (now (offsets .entry)) idle) ⌝ }
+    requires { ⌜ ((ts : Set) × (f : ℕ) × StartsAt ts (now image) (now kept) (now at) f idle t) ⌝ }
+    ensures { λ r. ⌜ ((ts : Set) (f : ℕ) → StartsAt ts (now (image .entry)) (now (kept .entry)) (now (at .entry)) f idle t →
+        r ≡ next-from ts (now (image .entry)) (now (at .entry)) f idle) ⌝ }
 {
-    if h <= t {
+    let n = kept[FIGURES][TASKS] as usize;
+    let slack = &kept[SLACK];
+    let release = &at[RELEASE];
+    let offsets = &at[OFFSETS];
+    if kept[FIGURES][HYPERPERIOD] <= t {
         return NextStart::Stuck(18);
     }
     let mask = waiting(n, release, t);
-    let c = chosen_task(image, mask, next, release, offsets, t);
+    let c = chosen_task(image, at, mask, t);
     let task = c.task;
     let i = task as usize;
     if n <= i {
@@ -421,97 +412,65 @@ pub struct Idled {
     pub idle: u32,
 }
 
-// Past the idle records that are used, one at each decision, from a free instant, the least release and an ID offset.
-fn past_idles(
-    image: &[u8],
-    judged: bool,
-    n: usize,
-    h: u32,
-    jobs: &[u32; 16],
-    slack: &[u32; 16],
-    first: u32,
-    free: u32,
-    idle: u32,
-) -> Idled
-    requires idling { ⌜ ((ts : List Task) × (x releases offsets : List ℕ) × Idling ts (now image) h n (now jobs) (now slack) x releases offsets first
-        × (judged ≡ true → IdlesRead (lent (now image) ts) idle)) ⌝ }
-    requires within { ⌜ free ≤ h ⌝ }
-    ensures { λ r. ⌜ ((ts : List Task) (x releases offsets : List ℕ) →
-        Idling ts (now (image .entry)) h n (now (jobs .entry)) (now (slack .entry)) x releases offsets first →
-        IdledTo ts (now (image .entry)) h n (now (slack .entry)) x releases offsets free idle r) ⌝ }
+// An end of idling, by its parts.
+fn ended(readable: bool, start: u32, idle: u32) -> Idled
+    ensures { λ r. ⌜ r ≡ record { readable = readable; start = start; idle = idle } ⌝ }
 {
-    let mut from = free;
-    let mut o = idle;
+    Idled {
+        readable,
+        start,
+        idle,
+    }
+}
+
+// Past the idle records that are used, one at each decision, from the free instant, the least release and the ID offset.
+fn past_idles(image: &[u8], judged: bool, kept: &[[u32; 16]; 5], at: &[[u32; 16]; 4]) -> Idled
+    requires { ⌜ ((ts : Set) × Idling ts (now image) (now kept) (now at)
+        × (judged ≡ true → IdlesRead (lent (now image) ts) (idle-offset-in (now at)))) ⌝ }
+    ensures { λ r. ⌜ ((ts : Set) → Idling ts (now (image .entry)) (now (kept .entry)) (now (at .entry)) →
+        IdledTo ts (now (image .entry)) (now (kept .entry)) (now (at .entry)) r) ⌝ }
+{
+    let n = kept[FIGURES][TASKS] as usize;
+    let first = least(n, kept[FIGURES][HYPERPERIOD], &at[RELEASE]);
+    let mut from = at[INSTANTS][FREE];
+    let mut o = at[INSTANTS][IDLE];
     'decisions: loop {
         let t = later(from, first);
-        match idle_shown(image, judged, n, h, jobs, slack, o) {
+        match idle_shown(image, judged, kept, o) {
             IdleShown::Unreadable => {
-                break 'decisions Idled {
-                    readable: false,
-                    start: t,
-                    idle: o,
-                };
+                break 'decisions ended(false, t, o);
             }
             IdleShown::NoRecord => {
-                break 'decisions Idled {
-                    readable: true,
-                    start: t,
-                    idle: o,
-                };
+                break 'decisions ended(true, t, o);
             }
             IdleShown::Shows(r) => {
                 if r.start != t {
-                    break 'decisions Idled {
-                        readable: true,
-                        start: t,
-                        idle: o,
-                    };
+                    break 'decisions ended(true, t, o);
                 }
                 from = t + r.length;
-                o += (body_of(ID) + 2) as u32;
+                o += size_of(ID) as u32;
             }
         }
     }
 }
 
-// The next start from what has started, the instant from which the processor is free, the ID offset and the tasks' offsets. Of the set it takes n, H
-// and, for each task, its jobs a cycle, D − C, the number of its next job and that job's release, which is H or later where no job is left. Where the
+// The next start, from what is kept of the set and where replay stands. The release of a task's next job is H or later where no job is left. Where the
 // image's records were judged and all offsets stand among them, these are not tested again.
 pub fn next_start(
     image: &[u8],
     judged: bool,
-    n: usize,
-    h: u32,
-    jobs: &[u32; 16],
-    slack: &[u32; 16],
-    next: &[u32; 16],
-    release: &[u32; 16],
-    free: u32,
-    idle: u32,
-    offsets: &[u32; 16],
+    kept: &[[u32; 16]; 5],
+    at: &[[u32; 16]; 4],
 ) -> NextStart
-    requires fits { ⌜ ((ts : List Task) × Fits ts h n (now jobs) (now slack) (now next) (now release)
-        × (judged ≡ true → AllRead (now image) ts n (now offsets) idle)) ⌝ }
-    requires within { ⌜ free ≤ h ⌝ }
-    ensures { λ r. ⌜ FindsNext (now (image .entry)) n h (now (jobs .entry)) (now (slack .entry)) (now (next .entry)) (now (release .entry))
-        free idle (now (offsets .entry)) r ⌝ }
+    requires { ⌜ ((ts : Set) × Fits ts (now kept) (now at) × (judged ≡ true → AllRead (now image) ts (now kept) (now at))) ⌝ }
+    ensures { λ r. ⌜ FindsNext (now (image .entry)) (now (kept .entry)) (now (at .entry)) r ⌝ }
 {
-    if !tasks_readable(image, judged, n, jobs, slack, offsets) {
+    if !tasks_readable(image, judged, kept, &at[OFFSETS]) {
         return NextStart::Stuck(25);
     }
-    let d = past_idles(
-        image,
-        judged,
-        n,
-        h,
-        jobs,
-        slack,
-        least(n, h, release),
-        free,
-        idle,
-    );
+    let d = past_idles(image, judged, kept, at);
     if !d.readable {
         return NextStart::Stuck(25);
     }
-    start_at(image, n, h, slack, next, release, offsets, d.idle, d.start)
+    start_at(image, kept, at, d.idle, d.start)
 }

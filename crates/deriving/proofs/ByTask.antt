@@ -6,10 +6,10 @@ use Prim.Native.Nat.{ℕ, zero, suc, _+_, _≤_, _<_}
 use native.Mathlib.Omega.{arith}
 use lib.ListN.{length}
 use borrow.Author.Tests.{le-ltb, eq-eqb, ne-eqb}
-use Rattle.rules.specs.declared.Task.{Task}
 use Rattle.rules.specs.declared.Entry.{Entry}
 use Rattle.rules.specs.declared.Inversion.{Inversion}
-use Rattle.rules.specs.Priority.{slot, start-job, by-priority, setting-of}
+use Rattle.rules.specs.Tasks.{Set}
+use Rattle.rules.specs.Priority.{slot, start-job, setting-of}
 use Rattle.rules.specs.Irregularities.{at-most, insert, insert-unless, runs, inversion-of, inversions}
 use Rattle.rules.proofs.Cases.{by-bool, by-eq}
 use Rattle.rules.proofs.Theory.{ValidFrom, finished, entry}
@@ -93,7 +93,7 @@ module _ (r : Inversion) (p q : ℕ → List Inversion) (parts : (k : ℕ) → O
       (insert-past r i 0 (p i) (joined many (suc i) p) (parts i) (omega arith)
       ∙ ap (λ (l : List Inversion). p i ++ l) (insert-joined many (suc i) (omega arith) (omega arith))))
 
-module _ (ts : List Task) (h : ℕ) where
+module _ (ts : Set) (h : ℕ) where
   -- a start lowers no next job number
   slots-rise : (x : List ℕ) (i j : ℕ) → slot x i ≤ slot (start-job x j) i
   slots-rise x i j = by-eq i j (λ q. rw q (omega (arith, slot-start-same x j))) (λ n. omega (arith, slot-start-other x j i n))
@@ -105,7 +105,7 @@ module _ (ts : List Task) (h : ℕ) where
       let rest = task-inversions (setting-of ts h) i (start-job x (e .task)) τ in
       let later : Of i (slot x i) rest = of-lower i (slot (start-job x (e .task)) i) (slot x i) rest (slots-rise x i (e .task)) (its-own i (start-job x (e .task)) τ) in
       by-eq i (e .task)
-      (λ q. by-bool (runs (by-priority ts h x (e .start)) (e .task))
+      (λ q. by-bool (runs (setting-of ts h .baseline x (e .start)) (e .task))
       (λ b. rw (regular ts h x e τ b i) later)
       (λ b. let job : slot x i ≡ slot x (e .task) = ap (slot x) q in
       rw (eq-eqb (e .task) i (sym q), b) (sym q, omega arith, later)))
@@ -113,8 +113,8 @@ module _ (ts : List Task) (h : ℕ) where
 
   -- the inversions of a valid timetable, task by task
   pub inversions-by-task : {x : List ℕ} {f : ℕ} {τ : List Entry} → ValidFrom (setting-of ts h) x f τ →
-      inversions (setting-of ts h) x τ ≡ joined (length ts) 0 (λ i. task-inversions (setting-of ts h) i x τ)
-  inversions-by-task {x} (finished all) = sym (joined-none (length ts) 0 _ (λ i. refl))
+      inversions (setting-of ts h) x τ ≡ joined (length (ts .tasks)) 0 (λ i. task-inversions (setting-of ts h) i x τ)
+  inversions-by-task {x} (finished all) = sym (joined-none (length (ts .tasks)) 0 _ (λ i. refl))
   inversions-by-task (entry {x = x} {e = e} {τ = τ} ok valid) =
       let y = start-job x (e .task) in
       let r = inversion-of (setting-of ts h) x e in
@@ -122,13 +122,13 @@ module _ (ts : List Task) (h : ℕ) where
       let later : ℕ → List Inversion = λ i. task-inversions (setting-of ts h) i y τ in
       let made : Bool → List Inversion = λ b. insert-unless b r (inversions (setting-of ts h) y τ) in
       let rest = inversions-by-task valid in
-      by-bool (runs (by-priority ts h x (e .start)) (e .task))
-      (λ b. ap made b ∙ rest ∙ joined-same (length ts) 0 later now (λ k lo hi. sym (regular ts h x e τ b k)))
+      by-bool (runs (setting-of ts h .baseline x (e .start)) (e .task))
+      (λ b. ap made b ∙ rest ∙ joined-same (length (ts .tasks)) 0 later now (λ k lo hi. sym (regular ts h x e τ b k)))
       (λ b. ap made b
       ∙ ap (insert r) rest
       ∙ insert-joined r later now (λ k. of-lower k _ 0 (later k) (omega arith) (its-own k y τ))
       (of-lower (e .task) (slot y (e .task)) (slot x (e .task)) (later (e .task)) (slots-rise x (e .task) (e .task)) (its-own (e .task) y τ))
-      (inverted ts h x e τ b) (λ k n. other-task ts h k x e τ n) (length ts) 0 (omega arith) (omega (arith, keeps-rules ts h _ _ _ _ ok .a-task)))
+      (inverted ts h x e τ b) (λ k n. other-task ts h k x e τ n) (length (ts .tasks)) 0 (omega arith) (omega (arith, keeps-rules ts h _ _ _ _ ok .a-task)))
 
   -- a task has no more inversions than there are entries
   pub own-few : (i : ℕ) (x : List ℕ) (τ : List Entry) → length (task-inversions (setting-of ts h) i x τ) ≤ length τ
@@ -136,6 +136,6 @@ module _ (ts : List Task) (h : ℕ) where
   own-few i x (e ∷ τ) =
       let later = own-few i (start-job x (e .task)) τ in
       by-eq i (e .task)
-      (λ q. by-bool (runs (by-priority ts h x (e .start)) (e .task)) (λ b. rw (regular ts h x e τ b i) (omega arith))
+      (λ q. by-bool (runs (setting-of ts h .baseline x (e .start)) (e .task)) (λ b. rw (regular ts h x e τ b i) (omega arith))
       (λ b. rw (eq-eqb (e .task) i (sym q), b) (omega arith)))
       (λ q. rw (other-task ts h i x e τ q) (omega arith))

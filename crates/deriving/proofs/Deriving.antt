@@ -6,21 +6,19 @@ use Prim.Native.Nat.{ℕ, _+_, _*_, _≤_, _<_}
 use native.Mathlib.Omega.{arith}
 use lib.ListN.{length}
 use borrow.Author.Tests.{le-leb, lt-leb}
-use Rattle.rules.specs.declared.Task.{Task}
 use Rattle.rules.specs.declared.Entry.{Entry}
 use Rattle.rules.specs.declared.MakeAnswer.the-variants as make-case
 use Rattle.rules.specs.Refusals.{Judged, gives, refuses, refusal}
-use Rattle.rules.specs.Tasks.{limits, hyperperiod}
+use Rattle.rules.specs.Tasks.{Set, limits, hyperperiod, memory-set}
 use Rattle.rules.specs.Setting.{Tables}
-use Rattle.rules.specs.Marks.{ID, PV, EN, size}
-use Rattle.rules.specs.Image.{image, record-of, set-records, table-image}
+use Rattle.rules.specs.Marks.{ID, PV, EN, size, head-length-of}
+use Rattle.rules.specs.Image.{image, record-of, head-records, table-image}
 use Rattle.rules.specs.Operations.{derived, derived-image, make-answer, output-after, into, derive, derive-output, Derives}
 use Rattle.rules.proofs.Images.{records-before, table-image-length}
 use Rattle.writing.specs.Writing.{put-at, record-put}
 use Rattle.timetables.specs.declared.Timetable.{Timetable}
 use Rattle.timetables.specs.declared.Counts.{Counts}
-use Rattle.framing.specs.SetRead.{tasks-offset}
-use Rattle.timetables.specs.Judged.{tasks-of, entries-behind, Good, JudgedAs}
+use Rattle.timetables.specs.Judged.{entries-behind, Good, JudgedAs}
 use Rattle.timetables.specs.Counted.{tables-of, Counted}
 use Rattle.deriving.specs.Putting.{EntriesValid, tables-put}
 use Rattle.deriving.proofs.ImagePut.{table-put}
@@ -34,8 +32,8 @@ refused-so bytes old t judged numbered = let e = judged .refused numbered .0 in 
 
 module _ (bytes : List ℕ) (t : Timetable) (g : Good bytes true t) where
   -- the set's tasks
-  abbrev ts : List Task
-  ts = tasks-of (t .set)
+  abbrev ts : Set
+  ts = memory-set (t .set)
 
   abbrev τ : List Entry
   τ = entries-behind bytes (t .set) (t .listed)
@@ -49,7 +47,7 @@ module _ (bytes : List ℕ) (t : Timetable) (g : Good bytes true t) where
   X = tables-of ts (hyperperiod ts) τ
 
   -- they are derived
-  derives : derived bytes ≡ gives (record { tasks = ts; tables = X })
+  derives : derived bytes ≡ gives (record { set = ts; tables = X })
   derives = rw (g .read, g .stand .good, g .no-fault)
 
   -- and their image is put where there is room
@@ -74,7 +72,7 @@ module _ (bytes : List ℕ) (t : Timetable) (g : Good bytes true t) where
 
   -- how long the image of its tables is
   abbrev long : ℕ
-  long = tasks-offset (t .set .n) + c .idles * size ID + c .inversions * size PV + size EN
+  long = head-length-of (t .set .n) + c .idles * size ID + c .inversions * size PV + size EN
 
   -- so long it is
   image-long : length (table-image ts X) ≡ long
@@ -101,16 +99,16 @@ module _ (bytes : List ℕ) (t : Timetable) (g : Good bytes true t) where
 
     -- and the set, the tables and EN put one behind the other are the image at the front of the output, with all other bytes as they were
     pub put-out : (set-put tables-in end-put : List ℕ) (end before : ℕ) →
-        set-put ≡ put-at old 0 (image (set-records 2 ts)) →
+        set-put ≡ put-at old 0 (image (head-records 2 ts)) →
         tables-in ≡ tables-put set-put (t .set .n) X →
         end-put ≡ record-put tables-in end (record-of EN (before ∷ [])) →
         end + size EN ≡ n → before ≡ t .set .n + 1 + c .idles + c .inversions → end-put ≡ derive-output bytes old
     unfolding derive-output
     put-out set-put tables-in end-put end before first second third end-is before-is =
-        let here : end ≡ tasks-offset (length ts) + length (X .idles) * size ID + length (X .inversions) * size PV =
+        let here : end ≡ head-length-of (length (ts .tasks)) + length (X .idles) * size ID + length (X .inversions) * size PV =
         omega (arith, g .tasks-many, counted .idles, counted .inversions) in
         let number : before ≡ records-before ts X = omega (arith, g .tasks-many, counted .idles, counted .inversions) in
-        let behind : tables-in ≡ tables-put (put-at old 0 (image (set-records 2 ts))) (length ts) X =
+        let behind : tables-in ≡ tables-put (put-at old 0 (image (head-records 2 ts))) (length (ts .tasks)) X =
         second ∙ ap₂ (λ (o : List ℕ) (k : ℕ). tables-put o k X) first (sym (g .tasks-many)) in
         third
         ∙ rw (here, number, behind) (table-put ts X old (omega (arith, image-long)))

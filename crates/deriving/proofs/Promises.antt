@@ -7,11 +7,11 @@ use Prim.Native.Nat.{ℕ, _≤_}
 use lib.ListN.{length, take, drop}
 use borrow.Author.Tests.{le-leb}
 use Rattle.fields.specs.Number.{Bytes}
-use Rattle.rules.specs.declared.Task.{Task}
 use Rattle.rules.specs.declared.Entry.{Entry}
 use Rattle.rules.specs.declared.Refusal.{Refusal}
 use Rattle.rules.specs.declared.MakeAnswer.{MakeAnswer}
 use Rattle.rules.specs.declared.MakeAnswer.the-variants.{Made, Refused}
+use Rattle.rules.specs.Tasks.{Set}
 use Rattle.rules.specs.Refusals.{Judged, gives}
 use Rattle.rules.specs.Setting.{Tables}
 use Rattle.rules.specs.Judging.{tables}
@@ -38,7 +38,7 @@ module _ (bytes old : List ℕ) (r : MakeAnswer) (out : List ℕ) (met : Derives
       (λ e. exactly .0 (sym (met .answer) ∙ e), λ w. met .answer ∙ exactly .1 w)
 
   -- from the image of a timetable, where there is room, the image of exactly its irregularities is written, and later bytes keep their values
-  pub writes-exactly : {ts : List Task} {τ : List Entry} (t : TimetableImage bytes ts τ) (X : Tables) → HasTables ts (t .h) τ X →
+  pub writes-exactly : {ts : Set} {τ : List Entry} (t : TimetableImage bytes ts τ) (X : Tables) → HasTables ts (t .h) τ X →
       length (table-image ts X) ≤ length old →
       (r ≡ Made (length (table-image ts X))) × (out ≡ table-image ts X ++ drop (length (table-image ts X)) old)
   unfolding derive derive-output
@@ -52,7 +52,7 @@ module _ (bytes old : List ℕ) (r : MakeAnswer) (out : List ℕ) (met : Derives
 
   -- and a length is answered only where the bytes are such an image, and those irregularities are what was written
   pub writes-only : Bytes bytes → (n : ℕ) → r ≡ Made n →
-      (ts : List Task) × (τ : List Entry) × (t : TimetableImage bytes ts τ) × (X : Tables) × HasTables ts (t .h) τ X × (take n out ≡ table-image ts X)
+      (ts : Set) × (τ : List Entry) × (t : TimetableImage bytes ts τ) × (X : Tables) × HasTables ts (t .h) τ X × (take n out ≡ table-image ts X)
   writes-only b n e =
       let w = derive-made bytes old n b (sym (met .answer) ∙ e) in
       (w .0, w .1, w .2, tables (w .0) (w .1), derived-tables (w .2 .good) (w .2 .valid), ap (take n) (met .output) ∙ w .3)

@@ -8,7 +8,7 @@ use native.Mathlib.Nat.{sub-zero}
 use native.Mathlib.Omega.{arith}
 use lib.Dec.{ltb}
 use lib.ListN.{length, getD, set, take, replicate, length-set}
-use lib.Seq.{getD-set-same, getD-set-other, length-take-le}
+use lib.Seq.{getD-set-same, getD-set-other}
 use borrow.Author.Tests.{ltb-true, ltb-false}
 use Rattle.rules.specs.declared.Task.{Task}
 use Rattle.rules.specs.declared.TaskSet.{TaskSet}
@@ -18,16 +18,17 @@ use Rattle.rules.specs.declared.Inversion.{Inversion}
 use Rattle.rules.specs.Setting.{Setting}
 use Rattle.rules.specs.Priority.{slot, start-job, setting-of}
 use Rattle.rules.specs.Irregularities.{forced-idles}
-use Rattle.rules.specs.Marks.{SL, ID, PV, size}
+use Rattle.rules.specs.Marks.{SL, ID, PV, size, head-length-of}
 use Rattle.rules.specs.Image.{record-of, of-idle, of-inversion}
+use Rattle.rules.specs.Tasks.{memory-set}
 use Rattle.rules.proofs.Cases.{by-eq}
 use Rattle.rules.proofs.PriorityLaws.{StartKeepsRules, slot-empty, slot-start-same, slot-start-other}
+use Rattle.rules.proofs.Arrays.{memory-many}
 use Rattle.writing.specs.Writing.{put-at, record-put}
 use Rattle.writing.proofs.Puts.{put-length}
-use Rattle.framing.specs.SetRead.{tasks-offset}
 use Rattle.timetables.specs.declared.Counts.{Counts}
 use Rattle.timetables.specs.Entries.{entry-in, entries-at}
-use Rattle.timetables.specs.Judged.{tasks-of, entries-behind}
+use Rattle.timetables.specs.Judged.{entries-behind}
 use Rattle.timetables.specs.Instants.{least-of, some-by}
 use Rattle.timetables.specs.Counted.{tables-of, task-inversions}
 use Rattle.timetables.proofs.EntriesRead.{no-entry-left}
@@ -48,10 +49,10 @@ pub record PutFrom (bytes : List ℕ) (s : TaskSet) (h listed : ℕ) (releases n
   pub numbers : (i : ℕ) → getD next i 0 ≡ slot started i
   pub many-numbers : length next ≡ 16
   pub walk : ValidAt bytes s h listed releases started free at j
-  pub left : LeftToPut (suc (s .n)) (tables-put old (s .n) (tables-of (tasks-of s) h (entries-behind bytes s listed)))
+  pub left : LeftToPut (suc (s .n)) (tables-put old (s .n) (tables-of (memory-set s) h (entries-behind bytes s listed)))
       (places-of idle-at offsets)
-      (parts-of (forced-idles (setting-of (tasks-of s) h) started free (entries-at bytes at (listed - j)))
-      (λ k. task-inversions (setting-of (tasks-of s) h) k started (entries-at bytes at (listed - j)))) out
+      (parts-of (forced-idles (setting-of (memory-set s) h) started free (entries-at bytes at (listed - j)))
+      (λ k. task-inversions (setting-of (memory-set s) h) k started (entries-at bytes at (listed - j)))) out
   pub slots : length offsets ≡ 16
   pub long : length out ≡ length old
 
@@ -65,23 +66,23 @@ can-few {s = s} can = record {
 
 -- before the first entry all of the tables are left
 pub put-first : {bytes : List ℕ} {s : TaskSet} {h listed : ℕ} {releases : List ℕ} {at : ℕ} {c : Counts} {offsets out : List ℕ} →
-    CanPut bytes s h listed c out → PartsBegin (s .n) c offsets → AtEntry bytes s h releases [] at 0 → (idle-at : ℕ) → idle-at ≡ tasks-offset (s .n) →
+    CanPut bytes s h listed c out → PartsBegin (s .n) c offsets → AtEntry bytes s h releases [] at 0 → (idle-at : ℕ) → idle-at ≡ head-length-of (s .n) →
     PutFrom bytes s h listed releases (replicate 16 0) 0 at 0 idle-at offsets out out
 put-first {bytes} {s} {h} {listed} {releases} {at} {c} {offsets} {out} can begin w idle-at first =
-    let ts = tasks-of s in
+    let ts = memory-set s in
     let τ = entries-behind bytes s listed in
     let X = tables-of ts h τ in
     let own : ℕ → List Inversion = λ k. task-inversions (setting-of ts h) k [] τ in
-    let many : length ts ≡ s .n = length-take-le (s .n) (s .tasks) (omega (arith, w .slots, w .stand .few)) in
+    let many : length (ts .tasks) ≡ s .n = memory-many s (omega (arith, w .slots, w .stand .few)) in
     let by-task : joined (s .n) 0 own ≡ X .inversions =
     ap (λ (n : ℕ). joined n 0 own) (sym many) ∙ sym (inversions-by-task ts h (all-valid (can .valid))) in
-    let place : at ≡ tasks-offset (s .n) = omega (arith, w .place) in
+    let place : at ≡ head-length-of (s .n) = omega (arith, w .place) in
     let everything : τ ≡ entries-at bytes at (listed - 0) = rw (place, sub-zero listed) in
     let idles = can .counted .idles in
     let total = can .counted .inversions in
-    let whole = put-at out (tasks-offset (s .n)) (tables-bytes (X .idles) (joined (s .n) 0 own)) in
-    let all : LeftToPut (suc (s .n)) whole (places-of (tasks-offset (s .n)) offsets) (parts-of (X .idles) own) out =
-    all-left (s .n) (tasks-offset (s .n)) (X .idles) own (c .each) offsets out (λ k l. can .counted .each k)
+    let whole = put-at out (head-length-of (s .n)) (tables-bytes (X .idles) (joined (s .n) 0 own)) in
+    let all : LeftToPut (suc (s .n)) whole (places-of (head-length-of (s .n)) offsets) (parts-of (X .idles) own) out =
+    all-left (s .n) (head-length-of (s .n)) (X .idles) own (c .each) offsets out (λ k l. can .counted .each k)
     (λ k l. rw (← idles) (begin .at k l))
     (omega (arith, can .room, tables-length (X .idles) (joined (s .n) 0 own), ap length by-task)) in
     record {
@@ -90,7 +91,7 @@ put-first {bytes} {s} {h} {listed} {releases} {at} {c} {offsets} {out} can begin
       many-numbers = refl;
       walk = valid-first (can .valid) w;
       left = rw first
-          (same-left (tasks-offset (s .n)) offsets out _ _ _ _ (ap (forced-idles (setting-of ts h) [] 0) everything)
+          (same-left (head-length-of (s .n)) offsets out _ _ _ _ (ap (forced-idles (setting-of ts h) [] 0) everything)
           (λ k. ap (task-inversions (setting-of ts h) k []) everything) (rw by-task at all));
       slots = begin .slots;
       long = refl;
@@ -100,7 +101,7 @@ module _ {bytes : List ℕ} {s : TaskSet} {h listed : ℕ} {releases next : List
     (w : PutFrom bytes s h listed releases next free at j idle-at offsets old out) where
   -- the set's setting
   abbrev G : Setting
-  G = setting-of (tasks-of s) h
+  G = setting-of (memory-set s) h
 
   -- what has started
   abbrev x : List ℕ
@@ -108,7 +109,7 @@ module _ {bytes : List ℕ} {s : TaskSet} {h listed : ℕ} {releases next : List
 
   -- what the output comes to
   abbrev whole : List ℕ
-  whole = tables-put old (s .n) (tables-of (tasks-of s) h (entries-behind bytes s listed))
+  whole = tables-put old (s .n) (tables-of (memory-set s) h (entries-behind bytes s listed))
 
   -- at the end all is put
   pub put-all : listed ≤ j → out ≡ whole
@@ -135,7 +136,7 @@ module _ {bytes : List ℕ} {s : TaskSet} {h listed : ℕ} {releases next : List
     left-here = first-left (w .walk) more is d
 
     -- it keeps the rules
-    keeps : StartKeepsRules (tasks-of s) h x free (e .task) (e .start)
+    keeps : StartKeepsRules (memory-set s) h x free (e .task) (e .start)
     keeps = entry-keeps (w .walk) more is d
 
     -- the instant of decision

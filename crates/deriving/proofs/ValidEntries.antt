@@ -5,18 +5,17 @@ use Prim.Native.Nat.{ℕ, suc, _-_, _≤_}
 use native.Mathlib.Nat.{sub-zero}
 use native.Mathlib.Omega.{arith}
 use lib.ListN.{length}
-use Rattle.rules.specs.declared.Task.{Task}
 use Rattle.rules.specs.declared.TaskSet.{TaskSet}
 use Rattle.rules.specs.declared.Entry.{Entry}
-use Rattle.rules.specs.Tasks.{limits, hyperperiod}
+use Rattle.rules.specs.Tasks.{Set, limits, hyperperiod, memory-set}
 use Rattle.rules.specs.Priority.{setting, setting-of}
 use Rattle.rules.specs.Irregularities as book
+use Rattle.rules.specs.Marks.{head-length-of}
 use Rattle.rules.proofs.Theory.{ValidFrom}
 use Rattle.rules.proofs.GoodSets.{good-set}
 use Rattle.rules.proofs.ValidTimetables.{entries-valid}
 use Rattle.rules.proofs.Writable.{entries-few, its-idles-rise, idles-few, inversions-few}
-use Rattle.framing.specs.SetRead.{tasks-offset}
-use Rattle.timetables.specs.Judged.{tasks-of, entries-behind}
+use Rattle.timetables.specs.Judged.{entries-behind}
 use Rattle.timetables.specs.Counted.{tables-of, task-inversions}
 use Rattle.timetables.proofs.Turns.{AtEntry}
 use Rattle.deriving.specs.Putting.{EntriesValid}
@@ -25,15 +24,15 @@ use Rattle.deriving.proofs.ValidTurns.{ValidAt}
 
 module _ {bytes : List ℕ} {s : TaskSet} {h listed : ℕ} (v : EntriesValid bytes s h listed) where
   -- the set's tasks
-  abbrev ts : List Task
-  ts = tasks-of s
+  abbrev ts : Set
+  ts = memory-set s
 
   abbrev τ : List Entry
   τ = entries-behind bytes s listed
 
   -- the entries are valid in the cycle that is worked out
   in-cycle : ValidFrom (setting ts) [] 0 τ
-  in-cycle = entries-valid (setting ts) _ τ (suc (length ts)) [] 0 (v .no-fault)
+  in-cycle = entries-valid (setting ts) _ τ (suc (length (ts .tasks))) [] 0 (v .no-fault)
 
   -- and so in a cycle of h ticks
   pub all-valid : ValidFrom (setting-of ts h) [] 0 τ
@@ -42,7 +41,7 @@ module _ {bytes : List ℕ} {s : TaskSet} {h listed : ℕ} (v : EntriesValid byt
   -- the walk at the first entry
   pub valid-first : {releases : List ℕ} {at : ℕ} → AtEntry bytes s h releases [] at 0 → ValidAt bytes s h listed releases [] 0 at 0
   valid-first {at = at} w =
-      let place : at ≡ tasks-offset (s .n) = omega (arith, w .place) in
+      let place : at ≡ head-length-of (s .n) = omega (arith, w .place) in
       record { all = v .stand; here = w; valid = rw (sub-zero listed, place) all-valid }
 
   -- there are no more forced idles than ticks

@@ -8,7 +8,7 @@ use lib.ListN.{length, getD, set}
 use Rattle.rules.specs.declared.Task.{Task}
 use Rattle.rules.specs.declared.TaskSet.{TaskSet}
 use Rattle.rules.specs.declared.Entry.{Entry}
-use Rattle.rules.specs.Tasks.{limits, task}
+use Rattle.rules.specs.Tasks.{limits, task, memory-set}
 use Rattle.rules.specs.Setting.{Setting}
 use Rattle.rules.specs.Priority.{slot, start-job, setting-of}
 use Rattle.rules.specs.Marks.{SL, size}
@@ -17,7 +17,7 @@ use Rattle.rules.proofs.PriorityLaws.{StartKeepsRules, keeps-rules}
 use Rattle.rules.proofs.Arrays.{task-in-slot}
 use Rattle.rules.proofs.Starts.{valid-first}
 use Rattle.timetables.specs.Entries.{entry-in, entries-at}
-use Rattle.timetables.specs.Judged.{tasks-of, EntriesStand}
+use Rattle.timetables.specs.Judged.{EntriesStand}
 use Rattle.timetables.proofs.EntriesRead.{entry-left}
 use Rattle.timetables.proofs.Turns.{AtEntry, stands-good, GoodStart, room, turn-task, turn-good, turn-next}
 
@@ -30,7 +30,7 @@ others-valid (entry ok valid) = valid
 pub record ValidAt (bytes : List ℕ) (s : TaskSet) (h listed : ℕ) (releases x : List ℕ) (free at j : ℕ) : Type 0 where
   pub all : EntriesStand bytes s h listed
   pub here : AtEntry bytes s h releases x at j
-  pub valid : ValidFrom (setting-of (tasks-of s) h) x free (entries-at bytes at (listed - j))
+  pub valid : ValidFrom (setting-of (memory-set s) h) x free (entries-at bytes at (listed - j))
 
 module _ {bytes : List ℕ} {s : TaskSet} {h listed : ℕ} {releases x : List ℕ} {free at j : ℕ} (w : ValidAt bytes s h listed releases x free at j)
     (more : j < listed) where
@@ -41,7 +41,7 @@ module _ {bytes : List ℕ} {s : TaskSet} {h listed : ℕ} {releases x : List �
   module _ {e : Entry} (is : e ≡ entry-in bytes at) (d : Task) where
     -- the set's setting
     abbrev G : Setting
-    G = setting-of (tasks-of s) h
+    G = setting-of (memory-set s) h
 
     -- the entries behind this one
     abbrev others : List Entry
@@ -56,8 +56,8 @@ module _ {bytes : List ℕ} {s : TaskSet} {h listed : ℕ} {releases x : List �
     from-here = subst (λ (σ : List Entry). ValidFrom G x free σ) first-left (w .valid)
 
     -- its start keeps the rules
-    pub entry-keeps : StartKeepsRules (tasks-of s) h x free (e .task) (e .start)
-    entry-keeps = keeps-rules (tasks-of s) h x free (e .task) (e .start) (valid-first from-here)
+    pub entry-keeps : StartKeepsRules (memory-set s) h x free (e .task) (e .start)
+    entry-keeps = keeps-rules (memory-set s) h x free (e .task) (e .start) (valid-first from-here)
 
     -- it is of a task
     pub entry-task : e .task < s .n
@@ -69,7 +69,7 @@ module _ {bytes : List ℕ} {s : TaskSet} {h listed : ℕ} {releases x : List �
 
     -- its task has few jobs
     pub few-started : slot x (e .task) + 1 ≤ limits .ticks
-    few-started = omega (arith, entry-keeps .left, div-le-self h (task (tasks-of s) (e .task) .period), stands-good (w .all) .short)
+    few-started = omega (arith, entry-keeps .left, div-le-self h (task (memory-set s) (e .task) .period), stands-good (w .all) .short)
 
     -- the walk at the next entry
     pub entry-next : ValidAt bytes s h listed (set releases (e .task) (getD releases (e .task) 0 + getD (s .tasks) (e .task) d .period))
@@ -77,5 +77,5 @@ module _ {bytes : List ℕ} {s : TaskSet} {h listed : ℕ} {releases x : List �
     entry-next = record {
       all = w .all;
       here = turn-next (w .here) e d entry-keeps entry-inside;
-      valid = rw (task-in-slot (s .tasks) (s .n) (e .task) d (room (w .here)) entry-task) at (others-valid from-here);
+      valid = rw (task-in-slot s (e .task) d (room (w .here)) entry-task) at (others-valid from-here);
     }

@@ -5,13 +5,12 @@ use mathlib.Core.Option.{none}
 use Prim.Native.Nat.{ℕ, _+_, _*_, _≤_, _<_}
 use lib.ListN.{length, getD}
 use Rattle.rules.specs.declared.TaskSet.{TaskSet}
-use Rattle.rules.specs.Tasks.{limits, hyperperiod}
+use Rattle.rules.specs.Tasks.{limits, hyperperiod, memory-set}
 use Rattle.rules.specs.Setting.{Tables}
-use Rattle.rules.specs.Marks.{ID, PV, size}
-use Rattle.framing.specs.SetRead.{tasks-offset}
+use Rattle.rules.specs.Marks.{ID, PV, size, head-length-of}
 use Rattle.writing.specs.Writing.{put-at}
 use Rattle.timetables.specs.declared.Counts.{Counts}
-use Rattle.timetables.specs.Judged.{tasks-of, entries-behind, fault-behind, EntriesStand}
+use Rattle.timetables.specs.Judged.{entries-behind, fault-behind, EntriesStand}
 use Rattle.timetables.specs.Counted.{tables-of, Counted}
 use Rattle.deriving.specs.Parts.{sum-first, tables-bytes}
 
@@ -28,7 +27,7 @@ pub record FewCounted (n : ℕ) (c : Counts) : Type 0 where
 
 -- the byte offset at which the PV records of task i begin
 abbrev pub begins : ℕ → Counts → ℕ → ℕ
-begins n c i = tasks-offset n + c .idles * size ID + sum-first i (c .each) * size PV
+begins n c i = head-length-of n + c .idles * size ID + sum-first i (c .each) * size PV
 
 pub record PartsBegin (n : ℕ) (c : Counts) (offsets : List ℕ) : Type 0 where
   pub slots : length offsets ≡ limits .tasks
@@ -36,14 +35,14 @@ pub record PartsBegin (n : ℕ) (c : Counts) (offsets : List ℕ) : Type 0 where
 
 -- the tables of so many entries behind the tasks of a set
 abbrev pub tables-behind : List ℕ → TaskSet → ℕ → Tables
-tables-behind bytes s listed = tables-of (tasks-of s) (hyperperiod (tasks-of s)) (entries-behind bytes s listed)
+tables-behind bytes s listed = tables-of (memory-set s) (hyperperiod (memory-set s)) (entries-behind bytes s listed)
 
 -- tables put into an output behind the tasks
 abbrev pub tables-put : List ℕ → ℕ → Tables → List ℕ
-tables-put old n X = put-at old (tasks-offset n) (tables-bytes (X .idles) (X .inversions))
+tables-put old n X = put-at old (head-length-of n) (tables-bytes (X .idles) (X .inversions))
 
 -- tables that are counted, and room for them
 pub record CanPut (bytes : List ℕ) (s : TaskSet) (h listed : ℕ) (c : Counts) (out : List ℕ) : Type 0 where
   pub valid : EntriesValid bytes s h listed
-  pub counted : Counted (tasks-of s) h (entries-behind bytes s listed) c
-  pub room : tasks-offset (s .n) + c .idles * size ID + c .inversions * size PV ≤ length out
+  pub counted : Counted (memory-set s) h (entries-behind bytes s listed) c
+  pub room : head-length-of (s .n) + c .idles * size ID + c .inversions * size PV ≤ length out

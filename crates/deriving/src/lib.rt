@@ -1,10 +1,9 @@
 // Deriving: the tables of a timetable image, counted by the walk that judges it and written in a second one. No heap; memory beside the arguments is a
 // few arrays of 16.
-use images::EN;
-use images::ID;
-use images::PV;
-use images::ROWS;
-use images::SL;
+use images::END_SIZE;
+use images::ENTRY_SIZE;
+use images::IDLE_SIZE;
+use images::INVERSION_SIZE;
 use rules::Idle;
 use rules::Inversion;
 use rules::LARGEST;
@@ -18,7 +17,6 @@ ghost use lib.ListN.{length, take};
 ghost use Rattle.rules.specs.Tasks as book;
 ghost use Rattle.rules.specs.Operations.{Derives};
 ghost use Rattle.timetables.specs.Instants.{least-of};
-ghost use Rattle.timetables.specs.Judged.{tasks-of};
 ghost use Rattle.deriving.specs.Putting.{FewCounted, PartsBegin, tables-put, tables-behind, CanPut};
 
 // An instant that no release comes to: there is no next job.
@@ -51,11 +49,11 @@ fn first_offsets(n: u32, c: Counts) -> [usize; 16]
 {
     let many = n as usize;
     let mut offsets = [0usize; 16];
-    let mut at = timetables::first_entry(n) + c.idles * (ROWS[ID].body + 2);
+    let mut at = images::head_length(many) + c.idles * IDLE_SIZE;
     let mut i: usize = 0;
     while i < many {
         offsets[i] = at;
-        at += c.each[i] * (ROWS[PV].body + 2);
+        at += c.each[i] * INVERSION_SIZE;
         i += 1;
     }
     offsets
@@ -63,19 +61,19 @@ fn first_offsets(n: u32, c: Counts) -> [usize; 16]
 
 // The ID records one behind the other, and each PV record at its own task's place.
 fn put_irregularities(image: &[u8], s: TaskSet, listed: usize, c: Counts, out: &mut [u8])
-    requires { ⌜ CanPut (now image) s (book.hyperperiod (tasks-of s)) listed c (now out) ⌝ }
+    requires { ⌜ CanPut (now image) s (book.hyperperiod (book.memory-set s)) listed c (now out) ⌝ }
     ensures { λ _. ⌜ now (out .exit) ≡ tables-put (now (out .entry)) (s .n) (tables-behind (now (image .entry)) s listed) ⌝ }
 {
     let n = s.n as usize;
     let mut release = timetables::first_releases(s);
     let mut next = [0u32; 16];
     let mut free: u32 = 0;
-    let mut idle_at = timetables::first_entry(s.n);
+    let mut idle_at = images::head_length(n);
     let mut offsets = first_offsets(s.n, c);
-    let mut at = timetables::first_entry(s.n);
+    let mut at = images::head_length(n);
     let mut j: usize = 0;
     while j < listed {
-        let e = timetables::entry_at(image, at);
+        let e = images::entry_at(image, at);
         let i = e.task as usize;
         let t = s.tasks[i];
         if timetables::idles_before(n, &release, i, free, e.start) {
@@ -88,7 +86,7 @@ fn put_irregularities(image: &[u8], s: TaskSet, listed: usize, c: Counts, out: &
                     length: e.start - now,
                 },
             );
-            idle_at += ROWS[ID].body + 2;
+            idle_at += IDLE_SIZE;
         }
         if timetables::lower_waits(&release, i, e.start) {
             writing::put_inversion(
@@ -100,12 +98,12 @@ fn put_irregularities(image: &[u8], s: TaskSet, listed: usize, c: Counts, out: &
                     delay: e.start - release[i],
                 },
             );
-            offsets[i] += ROWS[PV].body + 2;
+            offsets[i] += INVERSION_SIZE;
         }
         next[i] += 1;
         release[i] += t.period;
         free = e.start + t.time;
-        at += ROWS[SL].body + 2;
+        at += ENTRY_SIZE;
         j += 1;
     }
 }
@@ -121,10 +119,9 @@ pub fn derive(image: &[u8], out: &mut [u8]) -> MakeAnswer
     }
     let s = t.set;
     let c = t.counts;
-    let end = timetables::first_entry(s.n)
-        + c.idles * (ROWS[ID].body + 2)
-        + c.inversions * (ROWS[PV].body + 2);
-    let length = end + (ROWS[EN].body + 2);
+    let n = s.n as usize;
+    let end = images::head_length(n) + c.idles * IDLE_SIZE + c.inversions * INVERSION_SIZE;
+    let length = end + END_SIZE;
     if out.len() < length {
         return MakeAnswer::Refused(Refusal {
             number: 20,
@@ -133,7 +130,7 @@ pub fn derive(image: &[u8], out: &mut [u8]) -> MakeAnswer
     }
     writing::put_set(out, 2, s);
     put_irregularities(image, s, t.listed, c, out);
-    let before = s.n as usize + 1 + c.idles + c.inversions;
+    let before = images::head_count(n) + c.idles + c.inversions;
     writing::put_end(out, end, before as u32);
     MakeAnswer::Made(length)
 }

@@ -1,6 +1,7 @@
 pub mod Zeros
 pub mod Slots
 pub mod Lent
+pub mod StoredStarts
 pub mod Measuring
 pub mod Starting
 pub mod NextTurns

@@ -2,51 +2,54 @@
 use mathlib.Core.Path.{_≡_, refl, sym, _∙_, ap}
 use mathlib.Core.Bool.{Bool, true, false, not}
 use mathlib.Core.List.{List, []}
-use Prim.Native.Nat.{ℕ, _+_, _*_, _≤_, _<_}
+use Prim.Native.Nat.{ℕ, suc, _+_, _*_, _≤_, _<_}
 use native.Mathlib.Omega.{arith}
-use native.Mathlib.Numerals.{add-one}
-use native.Mathlib.Nat.{div-mul-le-self, mul-le-mul-right, le-of-dvd}
 use lib.Dec.{ltb}
-use lib.ListN.{length, replicate}
+use lib.ListN.{length}
 use borrow.Author.Tests.{lt-ltb, le-ltb, le-leb}
 use Rattle.rules.specs.declared.Task.{Task}
-use Rattle.rules.specs.declared.TaskSet.{TaskSet}
 use Rattle.rules.specs.declared.SetAnswer.the-variants as set-case
 use Rattle.rules.specs.declared.Figures.{Figures}
 use Rattle.rules.specs.declared.Refusal.{Refusal}
 use Rattle.rules.specs.declared.Dispatcher.{Dispatcher as State}
-use Rattle.rules.specs.declared.Turn.{Turn}
 use Rattle.rules.specs.Refusals.{refusal}
-use Rattle.rules.specs.Tasks.{both, limits, task, jobs, hyperperiod, few-enough, figures, memory-fault, judge-set}
-use Rattle.rules.specs.Priority.{slot, all-started}
-use Rattle.rules.specs.Offsets.{standing}
-use Rattle.rules.specs.Dispatcher.{stopped, is-stopped, set-of, counts-possible, possible, began, latest-end, refused, front, start-next, last-cycle}
-use Rattle.rules.specs.Dispatcher.{next-turn, go-on}
+use Rattle.rules.specs.Tasks.{Set, both, limits, task, jobs, hyperperiod, few-enough, figures, memory-fault, judge-set}
+use Rattle.rules.specs.Priority.{slot, all-started, setting}
+use Rattle.rules.specs.Offsets.{NextStart, next-is, stuck, next-start, lent as lent-by}
+use Rattle.rules.specs.Dispatcher.{number-count, stopped, is-stopped, set-of, counts-possible, possible, began, latest-end, refused, front, last-cycle}
+use Rattle.rules.specs.Dispatcher.{started, at-cycle-start, next-turn, go-on}
 use Rattle.rules.specs.GoingOn.{PossibleState}
-use Rattle.rules.proofs.Cases.{by-option, clash, differ, both-in}
-use Rattle.rules.proofs.PriorityLaws.{slot-empty, due-in-cycle}
-use Rattle.rules.proofs.GoodSets.{set-good, good-rules, good-positive}
+use Rattle.rules.proofs.Cases.{by-option, by-le, clash, both-in}
+use Rattle.rules.proofs.PriorityLaws.{slot-empty, left-not-all, due-in-cycle}
+use Rattle.rules.proofs.PossibleStates.{is-possible, all-have-started}
+use Rattle.rules.proofs.ForcedIdle.{released-in-cycle}
+use Rattle.rules.proofs.GoodSets.{set-good, good-rules}
 use Rattle.rules.proofs.Shown.{slot-front}
+use Rattle.rules.proofs.Arrays.{memory-many}
+use Rattle.sets.specs.Kept.{Rows, tasks-in, hyperperiod-in, Keeps, Filled}
 use Rattle.sets.proofs.Promises.{good-exactly}
-use Rattle.numbers.specs.declared.Going.{Going}
-use Rattle.numbers.specs.declared.Going.the-variants.{Stays, Stops, Moves}
-use Rattle.numbers.specs.declared.Move.{Move}
-use Rattle.numbers.specs.Going.{turn-of}
-use Rattle.records.specs.Fits.{SetFits}
-use Rattle.decision.specs.Fits.{Fits}
-use Rattle.replay.specs.Releases.{tasks-of, releases-of, ReleasesFit, none-before}
-use Rattle.replay.proofs.NextReleases.{releases-there}
-use Rattle.replay.proofs.Walk.{all-past-started}
-use Rattle.dispatcher.specs.Tested.{last-and-in-time}
-use Rattle.dispatcher.specs.States.{WithGoodSet, CanGoOn, StartFrom, Makes}
+use Rattle.numbers.specs.Numbers.{number-at, state-from}
+use Rattle.decision.specs.Fits.{next-in, releases-in, Fits}
+use Rattle.decision.proofs.Fitting.{left-before}
+use Rattle.dispatcher.specs.Tested.{last-and-in-time, AllStarted}
+use Rattle.dispatcher.specs.Stored.{in-next-cycle, start-from}
+use Rattle.dispatcher.specs.States.{WithGoodSet, stands-at, CanGoOn, CanStart}
+use Rattle.dispatcher.proofs.Lent.{room, first-release}
 use Rattle.dispatcher.proofs.Zeros.{fails-first, fails-later, fails-as, passes-as}
-use Rattle.dispatcher.proofs.Slots.{front-zeros}
 
 -- a state that is not stopped, and whose set is judged good
-pub with-good-set : (d : State) (f : Figures) → is-stopped d ≡ false → set-case.Good f ≡ judge-set (d .set) → WithGoodSet d (f .hyperperiod)
-with-good-set d f running e =
-    let in-memory = good-exactly (d .set) (set-case.Good f) e f .0 refl in
-    record { not-stopped = running; some-tasks = in-memory .some-tasks; few-tasks = in-memory .few-tasks; good = in-memory .good }
+pub with-good-set : (lent : List ℕ) (f : Figures) → length lent ≡ number-count → is-stopped (state-from lent) ≡ false →
+    set-case.Good f ≡ judge-set (state-from lent .set) → WithGoodSet lent f
+with-good-set lent f long running e =
+    let in-memory = good-exactly (state-from lent .set) (set-case.Good f) e f .0 refl in
+    record {
+      long = long;
+      not-stopped = running;
+      some-tasks = in-memory .some-tasks;
+      few-tasks = in-memory .few-tasks;
+      good = in-memory .good;
+      counted = in-memory .counted;
+    }
 
 module _ (bytes : List ℕ) (d : State) (end : ℕ) where
   -- a stopped state stays so: 23
@@ -68,14 +71,20 @@ module _ (bytes : List ℕ) (d : State) (end : ℕ) where
       (λ q n. impossible s (rw n))
 
 -- the tests of a state with a good set
-module _ {d : State} {h : ℕ} (g : WithGoodSet d h) where
+module _ {lent : List ℕ} {f : Figures} (g : WithGoodSet lent f) where
+  abbrev d : State
+  d = state-from lent
+
+  abbrev h : ℕ
+  h = f .hyperperiod
+
   -- h is the hyperperiod
   cycle-is : h ≡ hyperperiod (set-of d)
   cycle-is = set-good (set-of d) h (g .good) .1
 
   -- the state is possible where the code's three tests pass
   tested : possible d
-      ≡ both (counts-possible h (set-of d) (d .next))
+      ≡ both (counts-possible h (set-of d .tasks) (d .next))
       (both (ltb (d .running .task) (d .set .n))
       (last-and-in-time (task (set-of d) (d .running .task)) (slot (d .next) (d .running .task)) (d .running)))
   unfolding last-and-in-time
@@ -84,17 +93,17 @@ module _ {d : State} {h : ℕ} (g : WithGoodSet d h) where
       both-in _ _ (le-leb 1 (d .set .n) (g .some-tasks)) (le-leb (d .set .n) (limits .tasks) (g .few-tasks)) in
       rw (few, set-good (set-of d) h (g .good) .0, ← cycle-is)
 
-  module _ (test : Bool) (is : test ≡ counts-possible h (set-of d) (d .next)) where
+  module _ (test : Bool) (is : test ≡ counts-possible h (set-of d .tasks) (d .next)) where
     -- a next job number is above the task's jobs
     pub too-many : not test ≡ true → possible d ≡ false
-    too-many t = tested ∙ fails-first (counts-possible h (set-of d) (d .next)) _ (fails-as test _ is t)
+    too-many t = tested ∙ fails-first (counts-possible h (set-of d .tasks) (d .next)) _ (fails-as test _ is t)
 
     module _ (passed : not test ≡ false) where
       -- the running job's task is not below n
       pub no-such-task : d .set .n ≤ d .running .task → possible d ≡ false
       no-such-task l =
           tested
-          ∙ fails-later (counts-possible h (set-of d) (d .next)) _
+          ∙ fails-later (counts-possible h (set-of d .tasks) (d .next)) _
           (fails-first (ltb (d .running .task) (d .set .n)) _ (le-ltb (d .running .task) (d .set .n) l))
 
       module _ (below : d .running .task < d .set .n) (last : Bool) {t : Task} {next : ℕ} (t-is : t ≡ task (set-of d) (d .running .task))
@@ -106,12 +115,24 @@ module _ {d : State} {h : ℕ} (g : WithGoodSet d h) where
         pub not-in-time : not last ≡ true → possible d ≡ false
         not-in-time e =
             tested
-            ∙ fails-later (counts-possible h (set-of d) (d .next)) _
+            ∙ fails-later (counts-possible h (set-of d .tasks) (d .next)) _
             (fails-later (ltb (d .running .task) (d .set .n)) _ (fails-as last _ says-so e))
 
         -- all tests pass
         pub is-in-time : not last ≡ false → possible d ≡ true
         is-in-time e = tested ∙ both-in _ _ (passes-as test _ is passed) (both-in _ _ (lt-ltb _ _ below) (passes-as last _ says-so e))
+
+  -- the running job of a possible state leaves the processor free by the end of the cycle
+  pub free-by-end : possible d ≡ true → d .running .start + task (set-of d) (d .running .task) .time ≤ h
+  free-by-end e =
+      let p : PossibleState d = is-possible d e in
+      let i : ℕ = d .running .task in
+      let t : Task = task (set-of d) i in
+      let many : length (set-of d .tasks) ≡ d .set .n = memory-many (d .set) (room lent (g .few-tasks)) in
+      let same : p .h ≡ h = set-good (set-of d) (p .h) (p .good-set) .1 ∙ sym cycle-is in
+      let count = p .counts i (omega (arith, p .a-task, many)) in
+      let by-due = due-in-cycle (p .h) (d .running .job) t (good-rules (p .good-set) i) (omega (arith, count, p .last-started)) in
+      omega (arith, by-due, p .in-time, same)
 
   -- a possible state, with a reported end
   module _ (bytes : List ℕ) (end : ℕ) (p : possible d ≡ true) where
@@ -145,138 +166,85 @@ module _ {d : State} {h : ℕ} (g : WithGoodSet d h) where
             go-on,
           )
 
--- the running job of a possible state with what is kept of its set leaves the processor free by the end of the cycle
-pub free-by-end : {d : State} {n h : ℕ} {many slack : List ℕ} → PossibleState d → n ≡ d .set .n → SetFits (set-of d) h n many slack →
-    d .running .start + task (set-of d) (d .running .task) .time ≤ h
-free-by-end {d} {n} {h} p n-tasks fits =
-    let i : ℕ = d .running .task in
-    let t : Task = task (set-of d) i in
-    let same : p .h ≡ h = set-good (set-of d) (p .h) (p .good-set) .1 ∙ sym (set-good (set-of d) h (fits .good) .1) in
-    let count = p .counts i (omega (arith, p .a-task, fits .n-tasks)) in
-    let by-due = due-in-cycle (p .h) (d .running .job) t (good-rules (p .good-set) i) (omega (arith, count, p .last-started)) in
-    omega (arith, by-due, p .in-time, same)
+-- whether all jobs of a cycle have started, by the releases of the next ones
+module _ {ts : Set} {kept at : Rows} (fits : Fits ts kept at) where
+  -- one is before the end of the cycle
+  pub one-left : (i : ℕ) → i < tasks-in kept → slot (releases-in at) i < hyperperiod-in kept → false ≡ all-started (hyperperiod-in kept) (ts .tasks) (next-in at)
+  one-left i l before = sym (left-not-all (hyperperiod-in kept) (ts .tasks) (next-in at) i (omega (arith, fits .set .n-tasks)) (left-before fits i l before))
 
--- next job numbers of a set up to its jobs a cycle
-module _ (s : TaskSet) {h : ℕ} {many slack : List ℕ} (fits : SetFits (tasks-of s) h (s .n) many slack) (x : List ℕ)
-    (counts : (i : ℕ) → i < s .n → slot x i ≤ jobs h (task (tasks-of s) i)) where
-  -- their jobs' releases are numbers of 32 bits
-  pub releases-fit : ReleasesFit s x
-  releases-fit = record {
-    few = fits .few;
-    fit = λ i l.
-        let t : Task = task (tasks-of s) i in
-        let divides = fits .good .is-hyperperiod .common i (omega (arith, fits .n-tasks)) in
-        omega (
-          arith,
-          mul-le-mul-right (t .period) (counts i l),
-          div-mul-le-self h (t .period),
-          good-rules (fits .good) i .within,
-          le-of-dvd {m = t .period} {n = h} (good-positive (fits .good)) divides,
-          fits .good .short,
-        );
-  }
+  -- or none is
+  pub none-left : ((i : ℕ) → i < tasks-in kept → hyperperiod-in kept ≤ slot (releases-in at) i) → true ≡ all-started (hyperperiod-in kept) (ts .tasks) (next-in at)
+  none-left past =
+      let h = hyperperiod-in kept in
+      let x = next-in at in
+      sym
+      (all-have-started h (ts .tasks) x
+      (λ i l.
+      by-le (jobs h (task ts i)) (slot x i) (λ done. done)
+      (λ left.
+      let a-task : i < tasks-in kept = omega (arith, fits .set .n-tasks) in
+      absurd
+      (omega (
+        arith,
+        past i a-task,
+        released-in-cycle h (task ts i) (slot x i) (good-rules (fits .set .good) i) left,
+        fits .releases-there i a-task,
+      )))))
 
-  -- and the arrays fit them
-  pub next-fits : (releases : List ℕ) → length (s .tasks) ≡ limits .tasks → releases ≡ releases-of s x →
-      Fits (tasks-of s) h (s .n) many slack x releases
-  next-fits releases room e = record {
-    set = fits;
-    counts = counts;
-    releases-there = λ i l. rw e (releases-there s x (fits .few) (omega (arith, fits .few)) i l);
-  }
+-- a start makes the same of a state as its next cycle begins and of the state before: it keeps the set and the first offsets alone
+begun-alike : (bytes : List ℕ) (d : State) (n : ℕ) (x : NextStart) →
+    started bytes (in-next-cycle d n) (suc (d .cycle)) (at-cycle-start d) x ≡ started bytes d (suc (d .cycle)) (at-cycle-start d) x
+begun-alike bytes d n (next-is i t o) = refl
+begun-alike bytes d n (stuck number) = refl
 
--- changes of a state: the same for an equal turn
-pub as-turn : {d : State} {turn other : Turn} {g : Going} → turn ≡ other → Makes d turn g → Makes d other g
-as-turn e m = record { makes = sym e ∙ m .makes; stores = m .stores }
-
--- a refusal changes nothing
-pub stays : {d : State} {turn : Turn} (number : ℕ) → refused (refusal number 0) d ≡ turn → Makes d turn (Stays number)
-unfolding turn-of
-stays number e = record {
-  makes = sym e;
-  stores = record { a-task = λ m g. clash (cc); few = λ m g. clash (cc); next-fits = λ m g. clash (cc); cycle-fits = λ m g _. clash (cc) };
+-- a state in which nothing has started in its cycle, with each job 0 released at its task's offset
+pub at-start : {lent : List ℕ} {kept : Rows} {before releases : List ℕ} → length lent ≡ number-count → tasks-in kept ≡ state-from lent .set .n →
+    Keeps (set-of (state-from lent)) kept → ((i : ℕ) → i < tasks-in kept → slot (state-from lent .next) i ≡ 0) →
+    Filled before (λ (k : ℕ). number-at lent (1 + 4 * k)) 0 (tasks-in kept) releases → CanStart lent kept releases 0
+at-start {lent} long n-tasks keeps none filled = record {
+  long = long;
+  n-tasks = n-tasks;
+  fits = record {
+    set = keeps;
+    counts = λ i l. omega (arith, none i l);
+    releases-there = λ i l. rw (none i l) (first-release lent n-tasks (keeps .few) filled i l ∙ omega arith);
+    by-end = omega arith;
+  };
 }
 
--- or stops
-pub stops : {d : State} {turn : Turn} (number : ℕ) → refused (refusal number 0) stopped ≡ turn → Makes d turn (Stops number)
-unfolding turn-of
-stops number e = record {
-  makes = sym e;
-  stores = record { a-task = λ m g. clash (cc); few = λ m g. clash (cc); next-fits = λ m g. clash (cc); cycle-fits = λ m g _. clash (cc) };
-}
+-- a state's numbers with what is kept of its set and of its next jobs
+module _ {lent : List ℕ} {kept : Rows} {releases : List ℕ} {free : ℕ} (c : CanGoOn lent kept releases free) where
+  abbrev here : State
+  here = state-from lent
 
--- or makes a start
-pub moves : {d : State} {turn : Turn} {again : Bool} {n h : ℕ} {many slack : List ℕ} {cycle : ℕ} {next releases offsets : List ℕ} (m : Move) →
-    StartFrom d again n h many slack cycle next releases offsets → m .again ≡ again → m .task < n → m .job < h → turn ≡ turn-of d (Moves m) →
-    Makes d turn (Moves m)
-moves m from same a-task job e =
-    let here : (k : Move) → Moves m ≡ Moves k → m ≡ k = λ k g. cc in
-    record {
-      makes = e;
-      stores = record {
-        a-task = λ k g. rw (← here k g) (omega (arith, from .n-tasks));
-        few = λ k g. omega (arith, from .n-tasks, from .fits .set .few);
-        next-fits = λ k g. rw (← here k g) (omega (arith, from .fits .set .good .short));
-        cycle-fits = λ k g t. from .cycle-fits (sym same ∙ rw (here k g) t);
-      };
-    }
-
--- a possible state, with what is kept of its set and of its next jobs
-module _ {d : State} {n h : ℕ} {many slack releases : List ℕ} {free : ℕ} (c : CanGoOn d n h many slack releases free) where
-  -- what a start of this cycle is made from
-  pub this-cycle : {next offsets : List ℕ} → next ≡ d .next → offsets ≡ d .now .inversions →
-      StartFrom d false n h many slack (d .cycle) next releases offsets
-  this-cycle e f = record {
-    n-tasks = c .n-tasks;
-    fits = rw e (c .fits);
-    cycle-is = refl;
-    next-are = e;
-    offsets-are = f;
-    cycle-fits = λ t. differ (sym t);
-  }
-
-  -- and the first start of the next, with each job 0 released at its task's offset
-  pub next-cycle : {next none first now again starts : List ℕ} → d .cycle < last-cycle → next ≡ d .next →
-      none ≡ front n (replicate (limits .tasks) 0) next → first ≡ d .first .inversions → now ≡ d .now .inversions → again ≡ front n first now →
-      ((i : ℕ) → i < n → slot starts i ≡ task (set-of d) i .offset) →
-      StartFrom d true n h many slack (d .cycle + 1) none starts again
-  next-cycle {next} {none} {first} {now} l next-is none-is first-is now-is again-is starts-are =
-      let none-started : none ≡ front n [] (d .next) = none-is ∙ front-zeros n (limits .tasks) next ∙ ap (front n []) next-is in
-      let zero : (i : ℕ) → i < n → slot none i ≡ 0 = λ i b. rw (none-started, slot-front n [] (d .next) i b, slot-empty i) in
-      record {
-        n-tasks = c .n-tasks;
-        fits = record {
-          set = c .fits .set;
-          counts = λ i b. omega (arith, zero i b);
-          releases-there = λ i b. rw (zero i b) (starts-are i b ∙ omega arith);
-        };
-        cycle-is = add-one (d .cycle);
-        next-are = none-started ∙ rw (c .n-tasks);
-        offsets-are = again-is ∙ rw (first-is, now-is, c .n-tasks);
-        cycle-fits = λ _. l;
-      }
+  -- what the first start of the next cycle is made from
+  pub next-cycle : {after before first : List ℕ} → length after ≡ number-count → state-from after ≡ in-next-cycle here (tasks-in kept) →
+      Filled before (λ (k : ℕ). number-at after (1 + 4 * k)) 0 (tasks-in kept) first → CanStart after kept first 0
+  next-cycle {after} long is filled =
+      let next-is : state-from after .next ≡ front (tasks-in kept) [] (here .next) = ap (λ (d : State). d .next) is in
+      at-start long (c .starts .n-tasks ∙ sym (ap (λ (d : State). d .set .n) is)) (rw (ap set-of is) (c .starts .fits .set))
+      (λ i l. rw (next-is, slot-front (tasks-in kept) [] (here .next) i l, slot-empty i)) filled
 
   -- the next turn, by whether all jobs of the cycle have started
-  module _ (bytes : List ℕ) (test : Bool) (is : test ≡ none-before n h releases) where
-    as-tested : all-started (hyperperiod (set-of d)) (set-of d) (d .next) ≡ test
-    as-tested = rw (← set-good (set-of d) h (c .fits .set .good) .1) (sym (is ∙ all-past-started (c .fits)))
+  module _ (bytes : List ℕ) (test : Bool) (is : AllStarted kept releases test) where
+    as-tested : all-started (hyperperiod (set-of here)) (set-of here .tasks) (here .next) ≡ test
+    as-tested =
+        rw (← set-good (set-of here) (hyperperiod-in kept) (c .starts .fits .set .good) .1)
+        (sym (is (set-of here) (stands-at here releases free) (c .starts .fits) refl))
 
     -- they have not: the next job of this cycle
-    pub in-this-cycle : {g : Going} {cycle : ℕ} {next offsets : List ℕ} → test ≡ false →
-        (StartFrom d false n h many slack cycle next releases offsets → Makes d (start-next bytes d cycle (standing next free offsets (d .now .idle))) g) →
-        StartFrom d false n h many slack cycle next releases offsets → Makes d (next-turn bytes d) g
-    in-this-cycle t made s = as-turn (rw (as-tested ∙ t, c .free-from, s .cycle-is, s .next-are, s .offsets-are, next-turn)) (made s)
+    pub in-this-cycle : test ≡ false → start-from bytes here free ≡ next-turn bytes here
+    in-this-cycle t = rw (as-tested ∙ t, c .free-from, next-turn)
 
     module _ (t : test ≡ true) where
       -- they have: the first job of the next cycle
-      pub in-next-cycle : {g : Going} {cycle : ℕ} {none starts again : List ℕ} →
-          (StartFrom d true n h many slack cycle none starts again → Makes d (start-next bytes d cycle (standing none 0 again (d .first .idle))) g) →
-          StartFrom d true n h many slack cycle none starts again → Makes d (next-turn bytes d) g
-      in-next-cycle made s =
-          as-turn
-          (rw (as-tested ∙ t, lt-ltb (d .cycle) last-cycle (s .cycle-fits refl), s .cycle-is, s .next-are, s .offsets-are, next-turn))
-          (made s)
+      pub in-the-next : {after : State} → here .cycle < last-cycle → after ≡ in-next-cycle here (tasks-in kept) →
+          start-from bytes after 0 ≡ next-turn bytes here
+      in-the-next l e =
+          ap (λ (d : State). start-from bytes d 0) (e ∙ ap (in-next-cycle here) (c .starts .n-tasks))
+          ∙ begun-alike bytes here (here .set .n) (next-start (setting (set-of here)) (lent-by bytes (set-of here)) (at-cycle-start here))
+          ∙ rw (as-tested ∙ t, lt-ltb (here .cycle) last-cycle l, next-turn)
 
       -- and there is no next cycle: 24
-      pub after-last-cycle : last-cycle ≤ d .cycle → Makes d (next-turn bytes d) (Stays 24)
-      after-last-cycle l = stays 24 (rw (as-tested ∙ t, le-ltb (d .cycle) last-cycle l, next-turn))
+      pub after-last-cycle : last-cycle ≤ here .cycle → refused (refusal 24 0) here ≡ next-turn bytes here
+      after-last-cycle l = rw (as-tested ∙ t, le-ltb (here .cycle) last-cycle l, next-turn)

@@ -5,7 +5,6 @@ use mathlib.Core.Bool.{true}
 use mathlib.Core.List.{List}
 use Prim.Native.Nat.{ℕ, suc, _≤_, _<_}
 use Rattle.fields.specs.Number.{Bytes}
-use Rattle.rules.specs.declared.Task.{Task}
 use Rattle.rules.specs.declared.Refusal.{Refusal}
 use Rattle.rules.specs.declared.Start.{Start as StartOf}
 use Rattle.rules.specs.declared.StartAnswer.{StartAnswer}
@@ -13,6 +12,7 @@ use Rattle.rules.specs.declared.StartAnswer.the-variants as start-case
 use Rattle.rules.specs.declared.CheckAnswer.the-variants as check-case
 use Rattle.rules.specs.declared.Dispatcher.{Dispatcher as State}
 use Rattle.rules.specs.declared.Turn.{Turn}
+use Rattle.rules.specs.Tasks.{Set}
 use Rattle.rules.specs.Refusals.{First}
 use Rattle.rules.specs.Operations.{check-tables}
 use Rattle.rules.specs.Dispatcher.{Shaped, stopped, is-stopped, refused}
@@ -68,7 +68,7 @@ only-the-stopped-state = book.only-the-stopped-state
 
 -- DEMAND 3: results that meet the contracts, each call given the state of the one before, make up a log of the rule book, and its promises are of every log
 
-module _ (bytes : List ℕ) (ts : List Task) where
+module _ (bytes : List ℕ) (ts : Set) where
   -- one begins it
   pub begins-a-log : {turn : Turn} → Begun bytes turn → Log bytes ts 0 (turn .answer) (turn .state)
   begins-a-log = begun

@@ -1,13 +1,11 @@
--- The slots of arrays, one by one: the first slots of one array before those of another, and a slot that is counted up. The test of the running job.
--- Assumes nothing.
-use mathlib.Core.Path.{_≡_, refl, sym, _∙_, ap}
+-- A slot that is counted up. The test of the running job. Assumes nothing.
+use mathlib.Core.Path.{_≡_, sym, _∙_, ap}
 use mathlib.Core.Bool.{true, false}
-use mathlib.Core.List.{List, [], _∷_}
+use mathlib.Core.List.{List, _∷_}
 use Prim.Native.Nat.{ℕ, zero, suc, _+_, _≤_, _<_}
 use native.Mathlib.Omega.{arith}
 use native.Mathlib.Numerals.{add-one}
 use lib.Dec.{leb, eqb}
-use lib.ListN.{length, getD, set, replicate}
 use borrow.Author.Tests.{le-leb, lt-leb, eq-eqb, ne-eqb}
 use Rattle.fields.specs.Body.{head₀, tail₀}
 use Rattle.rules.specs.declared.Task.{Task}
@@ -15,23 +13,7 @@ use Rattle.rules.specs.declared.Running.{Running}
 use Rattle.rules.specs.Tasks.{release, due}
 use Rattle.rules.specs.Priority.{slot, start-job}
 use Rattle.rules.specs.Offsets.{put-slot}
-use Rattle.rules.specs.Dispatcher.{front}
 use Rattle.dispatcher.specs.Tested.{last-and-in-time}
-
--- one slot more of the array in front
-pub front-more : (i : ℕ) (a b : List ℕ) → i < length b → set (front i a b) i (getD a i 0) ≡ front (suc i) a b
-front-more zero a [] l = absurd (omega arith)
-front-more zero [] (k ∷ b) l = refl
-front-more zero (j ∷ a) (k ∷ b) l = refl
-front-more (suc i) a [] l = absurd (omega arith)
-front-more (suc i) [] (k ∷ b) l = ap (λ (x : List ℕ). 0 ∷ x) (front-more i [] b (omega arith))
-front-more (suc i) (j ∷ a) (k ∷ b) l = ap (λ (x : List ℕ). j ∷ x) (front-more i a b (omega arith))
-
--- zeros in front are as no numbers in front
-pub front-zeros : (n many : ℕ) (b : List ℕ) → front n (replicate many 0) b ≡ front n [] b
-front-zeros zero many b = refl
-front-zeros (suc n) zero b = refl
-front-zeros (suc n) (suc many) b = ap (λ (x : List ℕ). 0 ∷ x) (front-zeros n many (tail₀ b))
 
 -- a start counts its task's next job number up by one
 pub put-next : (x : List ℕ) (i : ℕ) → put-slot x i (slot x i + 1) ≡ start-job x i

@@ -1,3 +1,4 @@
+pub mod Stored
 pub mod Tested
 pub mod States
 pub mod Turns

@@ -1,57 +1,69 @@
--- What is known of a state on the way to its next start. Assumes nothing.
+-- What is known of a state's numbers on the way to its next start. Assumes nothing.
 use mathlib.Core.Path.{_≡_}
 use mathlib.Core.Bool.{Bool, true, false}
-use mathlib.Core.List.{List}
-use Prim.Native.Nat.{ℕ, _+_, _≤_, _<_}
-use lib.ListN.{length}
+use mathlib.Core.List.{List, [], _∷_}
+use Prim.Native.Nat.{ℕ, _+_, _≤_}
+use lib.ListN.{length, set, replicate}
+use Rattle.rules.specs.declared.Task.{Task}
+use Rattle.rules.specs.declared.Figures.{Figures}
 use Rattle.rules.specs.declared.Dispatcher.{Dispatcher as State}
-use Rattle.rules.specs.declared.Turn.{Turn}
-use Rattle.rules.specs.Tasks.{limits, task, GoodSet}
-use Rattle.rules.specs.Dispatcher.{is-stopped, set-of, counts-possible, last-cycle}
+use Rattle.rules.specs.Tasks.{limits, task, all-jobs, GoodSet}
+use Rattle.rules.specs.Dispatcher.{number-count, zeros, is-stopped, set-of, counts-possible}
 use Rattle.rules.specs.GoingOn.{PossibleState}
-use Rattle.numbers.specs.declared.Going.{Going}
 use Rattle.numbers.specs.Numbers.{state-from}
-use Rattle.numbers.specs.Going.{cycle-from, next-from, inversions-from, turn-of, CanStore}
+use Rattle.sets.specs.Kept.{Rows, figures-in, tasks-in, hyperperiod-in, all-jobs-in, jobs-in, slack-in, times-in, periods-in, slack-of}
 use Rattle.decision.specs.Fits.{Fits}
 
--- a state that is not stopped and whose set is good, with its hyperperiod
-pub record WithGoodSet (d : State) (h : ℕ) : Type 0 where
-  pub not-stopped : is-stopped d ≡ false
-  pub some-tasks : 1 ≤ d .set .n
-  pub few-tasks : d .set .n ≤ limits .tasks
-  pub good : GoodSet (set-of d) h
+-- a state that is not stopped and whose set is good, with its figures
+pub record WithGoodSet (lent : List ℕ) (f : Figures) : Type 0 where
+  pub long : length lent ≡ number-count
+  pub not-stopped : is-stopped (state-from lent) ≡ false
+  pub some-tasks : 1 ≤ state-from lent .set .n
+  pub few-tasks : state-from lent .set .n ≤ limits .tasks
+  pub good : GoodSet (set-of (state-from lent)) (f .hyperperiod)
+  pub counted : f .jobs ≡ all-jobs (f .hyperperiod) (set-of (state-from lent))
 
--- numbers of a state whose n tasks are a good set with hyperperiod h, and arrays of sixteen slots
-pub record CanMeasure (lent : List ℕ) (h n : ℕ) (many slack releases : List ℕ) : Type 0 where
-  pub n-tasks : n ≡ state-from lent .set .n
-  pub few-tasks : n ≤ limits .tasks
-  pub good : GoodSet (set-of (state-from lent)) h
-  pub many-slots : length many ≡ limits .tasks
-  pub slack-slots : length slack ≡ limits .tasks
+-- the rows of a set of n tasks, of which the figures are filled in
+abbrev pub figures-kept : ℕ → Figures → Rows
+figures-kept n f = (n ∷ f .hyperperiod ∷ f .jobs ∷ replicate 13 0) ∷ zeros ∷ zeros ∷ zeros ∷ zeros ∷ []
+
+-- rows with what is kept of task i in its slot
+abbrev pub with-task : Rows → ℕ → ℕ → Task → Rows
+with-task kept i many t =
+    figures-in kept ∷ set (jobs-in kept) i many ∷ set (slack-in kept) i (slack-of t) ∷ set (times-in kept) i (t .time)
+    ∷ set (periods-in kept) i (t .period) ∷ []
+
+-- numbers of a state whose tasks are a good set, the set's figures in rows of sixteen slots, and sixteen slots for releases
+pub record CanMeasure (lent : List ℕ) (kept : Rows) (releases : List ℕ) : Type 0 where
+  pub n-tasks : tasks-in kept ≡ state-from lent .set .n
+  pub few-tasks : tasks-in kept ≤ limits .tasks
+  pub good : GoodSet (set-of (state-from lent)) (hyperperiod-in kept)
+  pub all-there : all-jobs-in kept ≡ all-jobs (hyperperiod-in kept) (set-of (state-from lent))
+  pub rows : length kept ≡ 5
+  pub jobs-slots : length (jobs-in kept) ≡ limits .tasks
+  pub slack-slots : length (slack-in kept) ≡ limits .tasks
+  pub time-slots : length (times-in kept) ≡ limits .tasks
+  pub period-slots : length (periods-in kept) ≡ limits .tasks
   pub release-slots : length releases ≡ limits .tasks
 
--- whether the next job numbers are possible, and that the arrays fit them if they are
-pub record Measured (lent : List ℕ) (h n : ℕ) (test : Bool) (many slack releases : List ℕ) : Type 0 where
-  pub counts : test ≡ counts-possible h (set-of (state-from lent)) (state-from lent .next)
-  pub fits : test ≡ true → Fits (set-of (state-from lent)) h n many slack (state-from lent .next) releases
+-- where replay stands at a state, with the releases of its next jobs, from a free instant on
+abbrev pub stands-at : State → List ℕ → ℕ → Rows
+stands-at d releases free = (free ∷ d .now .idle ∷ replicate 14 0) ∷ d .next ∷ releases ∷ d .now .inversions ∷ []
 
--- a possible state, with what is kept of its set and of its next jobs, and the instant at which its running job leaves the processor free
-pub record CanGoOn (d : State) (n h : ℕ) (many slack releases : List ℕ) (free : ℕ) : Type 0 where
-  pub possible : PossibleState d
-  pub n-tasks : n ≡ d .set .n
-  pub fits : Fits (set-of d) h n many slack (d .next) releases
-  pub free-from : free ≡ d .running .start + task (set-of d) (d .running .task) .time
+-- whether the next job numbers are possible, and that the rows fit them if they are; the figures stay
+pub record Measured (lent : List ℕ) (before : Rows) (test : Bool) (kept : Rows) (releases : List ℕ) : Type 0 where
+  pub figures : figures-in kept ≡ figures-in before
+  pub counts : test ≡ counts-possible (hyperperiod-in kept) (set-of (state-from lent) .tasks) (state-from lent .next)
+  pub fits : test ≡ true → (free : ℕ) → free ≤ hyperperiod-in kept → Fits (set-of (state-from lent)) kept (stands-at (state-from lent) releases free)
 
--- what a start of a state is made from: in this cycle, or again from the beginning of the next
-pub record StartFrom (d : State) (again : Bool) (n h : ℕ) (many slack : List ℕ) (cycle : ℕ) (next releases offsets : List ℕ) : Type 0 where
-  pub n-tasks : n ≡ d .set .n
-  pub fits : Fits (set-of d) h n many slack next releases
-  pub cycle-is : cycle ≡ cycle-from d again
-  pub next-are : next ≡ next-from d again
-  pub offsets-are : offsets ≡ inversions-from d again
-  pub cycle-fits : again ≡ true → d .cycle < last-cycle
+-- what is kept of a state's set and of its next jobs, and the instant from which the processor is free
+pub record CanStart (lent : List ℕ) (kept : Rows) (releases : List ℕ) (free : ℕ) : Type 0 where
+  pub long : length lent ≡ number-count
+  pub n-tasks : tasks-in kept ≡ state-from lent .set .n
+  pub fits : Fits (set-of (state-from lent)) kept (stands-at (state-from lent) releases free)
 
--- a change of a state that makes a turn of it, and that can be stored
-pub record Makes (d : State) (turn : Turn) (g : Going) : Type 0 where
-  pub makes : turn ≡ turn-of d g
-  pub stores : CanStore d g
+-- a possible state, whose running job leaves the processor free at that instant
+pub record CanGoOn (lent : List ℕ) (kept : Rows) (releases : List ℕ) (free : ℕ) : Type 0 where
+  pub possible : PossibleState (state-from lent)
+  pub starts : CanStart lent kept releases free
+  pub free-from : free ≡ state-from lent .running .start + task (set-of (state-from lent)) (state-from lent .running .task) .time

@@ -7,7 +7,7 @@ use Rattle.rules.specs.declared.Dispatcher.{Dispatcher as State}
 use Rattle.rules.specs.declared.Turn.{Turn}
 use Rattle.rules.specs.Dispatcher.{begin, go-on}
 use Rattle.numbers.specs.Numbers.{state-from}
-use Rattle.numbers.specs.Going.{TurnStored}
+use Rattle.dispatcher.specs.Stored.{TurnStored}
 
 -- a result that meets the contract of beginning
 abbrev pub Begun : List ℕ → Turn → Type 0
@@ -29,6 +29,9 @@ BegunInPlace bytes = TurnInPlace (begin bytes)
 abbrev pub GoneOnInPlace : List ℕ → State → ℕ → StartAnswer → State → Type 0
 GoneOnInPlace bytes d end = TurnInPlace (go-on bytes d end)
 
--- going on with a state's numbers
+-- beginning into numbers, and going on with a state's numbers
+abbrev pub BegunNumbers : List ℕ → StartAnswer → List ℕ → Type 0
+BegunNumbers bytes = TurnStored (begin bytes)
+
 abbrev pub GoneOnNumbers : List ℕ → List ℕ → ℕ → StartAnswer → List ℕ → Type 0
 GoneOnNumbers bytes old end = TurnStored (go-on bytes (state-from old) end)

@@ -1,8 +1,20 @@
-// The dispatcher: beginning and going on, with the state handed in and back by value, and in place. For any bytes, any state and any reported end.
+// The dispatcher: beginning and going on, with the state as the numbers that it lies in memory as, by value, and in place. For any bytes, any state and any
+// reported end. Every start, the first one, one in a cycle and one as a cycle begins, is looked for and stored in one place.
+use decision::FREE;
+use decision::Found;
 use decision::NextStart;
-use numbers::Going;
-use numbers::Move;
+use numbers::CYCLE;
+use numbers::FIRST_IDLE;
+use numbers::FIRST_INVERSIONS;
+use numbers::IDLE;
+use numbers::INVERSIONS;
+use numbers::JOB;
+use numbers::NEXT;
+use numbers::NUMBERS;
+use numbers::START;
+use numbers::TASK;
 use rules::Dispatcher;
+use rules::Figures;
 use rules::LARGEST;
 use rules::Offsets;
 use rules::Refusal;
@@ -13,61 +25,187 @@ use rules::StartAnswer;
 use rules::Task;
 use rules::TaskSet;
 use rules::Turn;
+use sets::ALL_JOBS;
+use sets::FIGURES;
+use sets::HYPERPERIOD;
+use sets::JOBS;
+use sets::PERIODS;
+use sets::SLACK;
+use sets::TASKS;
+use sets::TIMES;
 ghost use mathlib.Core.Path.{_≡_};
-ghost use Prim.Native.Nat.{ℕ, _+_, _*_, _≤_};
+ghost use Prim.Native.Nat.{ℕ, _+_, _*_, _≤_, _<_};
 ghost use lib.ListN.{length};
-ghost use Rattle.rules.specs.declared.Dispatcher.{Dispatcher as State};
-ghost use Rattle.rules.specs.Refusals as book-refusals;
-ghost use Rattle.rules.specs.Offsets.{standing};
+ghost use Rattle.rules.specs.declared.StartAnswer.the-variants.{Refused};
+ghost use Rattle.rules.specs.Refusals.{refusal};
 ghost use Rattle.rules.specs.Dispatcher as book;
 ghost use Rattle.numbers.specs.Numbers.{number-at, state-from};
-ghost use Rattle.records.specs.Tables.{Filled};
-ghost use Rattle.decision.specs.Fits.{Fits};
-ghost use Rattle.dispatcher.specs.Tested.{last-and-in-time};
-ghost use Rattle.dispatcher.specs.Turns.{Begun, GoneOn, BegunInPlace, GoneOnInPlace, GoneOnNumbers};
-ghost use Rattle.dispatcher.specs.States.{WithGoodSet, CanMeasure, Measured, CanGoOn, StartFrom, Makes};
+ghost use Rattle.sets.specs.Kept.{tasks-in, Filled};
+ghost use Rattle.dispatcher.specs.Stored.{fresh-state, in-next-cycle, with-start, start-from, TurnStored};
+ghost use Rattle.dispatcher.specs.Tested.{last-and-in-time, AllStarted};
+ghost use Rattle.dispatcher.specs.Turns.{Begun, GoneOn, BegunInPlace, GoneOnInPlace, BegunNumbers, GoneOnNumbers};
+ghost use Rattle.dispatcher.specs.States.{WithGoodSet, figures-kept, with-task, CanMeasure, Measured, CanGoOn, CanStart};
 
 // The last cycle.
 const LAST_CYCLE: u32 = LARGEST;
 
-// The stopped state: all numbers 0.
-fn stopped() -> Dispatcher
-    ensures { λ r. ⌜ r ≡ book.stopped ⌝ }
+// Are all numbers of a state 0? A state with a task is seen at once not to be stopped.
+fn is_stopped(numbers: &[u32]) -> bool
+    requires { ⌜ length (now numbers) ≡ book.number-count ⌝ }
+    ensures { λ r. ⌜ r ≡ book.is-stopped (state-from (now (numbers .entry))) ⌝ }
 {
-    let set = TaskSet {
-        n: 0,
-        tasks: [Task {
-            offset: 0,
-            time: 0,
-            period: 0,
-            deadline: 0,
-        }; 16],
-    };
-    let running = Running {
-        task: 0,
-        job: 0,
-        start: 0,
-    };
-    let offsets = Offsets {
-        idle: 0,
-        inversions: [0u32; 16],
-    };
-    Dispatcher {
-        set,
-        next: [0u32; 16],
-        cycle: 0,
-        running,
-        now: offsets,
-        first: offsets,
+    let mut i: usize = 0;
+    while i < NUMBERS {
+        if numbers[i] != 0 {
+            return false;
+        }
+        i += 1;
+    }
+    true
+}
+
+// A refusal of going on: its place is 0.
+fn refused(number: u32) -> StartAnswer
+    ensures { λ r. ⌜ r ≡ Refused (refusal number 0) ⌝ }
+{
+    StartAnswer::Refused(Refusal { number, place: 0 })
+}
+
+// A refusal that stops: all numbers of the state are 0 then.
+fn stop(numbers: &mut [u32; NUMBERS], number: u32, place: usize) -> StartAnswer
+    ensures { λ r. ⌜ TurnStored (book.refused (refusal number place) book.stopped) r (now (numbers .exit)) ⌝ }
+{
+    *numbers = [0u32; NUMBERS];
+    StartAnswer::Refused(Refusal { number, place })
+}
+
+// The absolute time of an instant in a cycle of h ticks.
+fn absolute(cycle: u32, h: u32, at: u32) -> u64
+    ensures { λ r. ⌜ r ≡ cycle * h + at ⌝ }
+{
+    (cycle as u64) * (h as u64) + (at as u64)
+}
+
+// Stores the start of a task's next job.
+fn store_start(numbers: &mut [u32; NUMBERS], f: Found)
+    requires slot { ⌜ f .task < 16 ⌝ }
+    requires next { ⌜ number-at (now numbers) (book.next-at + f .task) < book.last-cycle ⌝ }
+    requires long { ⌜ length (now numbers) ≡ book.number-count ⌝ }
+    ensures state { λ _. ⌜ state-from (now (numbers .exit)) ≡ with-start (state-from (now (numbers .entry))) f ⌝ }
+    ensures long { λ _. ⌜ length (now (numbers .exit)) ≡ book.number-count ⌝ }
+{
+    let i = f.task as usize;
+    let job = numbers[NEXT + i];
+    numbers[NEXT + i] = job + 1;
+    numbers[TASK] = f.task;
+    numbers[JOB] = job;
+    numbers[START] = f.start;
+    numbers[IDLE] = f.idle;
+    numbers[INVERSIONS + i] = f.inversion;
+}
+
+// The next start in the state's cycle, from a free instant, and the state with it; 25 where there is none.
+fn start_next(
+    image: &[u8],
+    numbers: &mut [u32; NUMBERS],
+    kept: &[[u32; 16]; 5],
+    release: &[u32; 16],
+    free: u32,
+) -> StartAnswer
+    requires { ⌜ CanStart (now numbers) (now kept) (now release) free ⌝ }
+    ensures { λ r. ⌜ TurnStored (start-from (now (image .entry)) (state-from (now (numbers .entry))) free) r (now (numbers .exit)) ⌝ }
+{
+    let mut instants = [0u32; 16];
+    instants[FREE] = free;
+    instants[decision::IDLE] = numbers[IDLE];
+    let next = numbers::numbers_from(numbers, NEXT);
+    let offsets = numbers::numbers_from(numbers, INVERSIONS);
+    let mut at = [instants, next, *release, offsets];
+    match replay::one_start(image, kept, &mut at) {
+        NextStart::Stuck(_) => stop(numbers, 25, 0),
+        NextStart::Starts(f) => {
+            store_start(numbers, f);
+            let cycle = numbers[CYCLE];
+            StartAnswer::Start(Start {
+                task: f.task,
+                job: numbers[JOB],
+                cycle,
+                time: absolute(cycle, kept[FIGURES][HYPERPERIOD], f.start),
+            })
+        }
     }
 }
 
-// A refusal, with the state beside it.
-fn refused(number: u32, place: usize, state: Dispatcher) -> Turn
-    ensures { λ r. ⌜ r ≡ book.refused (book-refusals.refusal number place) state ⌝ }
+// The release of each of n tasks' job 0: its offset.
+fn first_releases(numbers: &[u32; NUMBERS], n: usize, release: &mut [u32; 16])
+    requires few { ⌜ n ≤ 16 ⌝ }
+    requires slots { ⌜ length (now release) ≡ 16 ⌝ }
+    ensures { λ _. ⌜ Filled (now (release .entry)) (λ (i : ℕ). number-at (now (numbers .entry)) (1 + 4 * i)) 0 n (now (release .exit)) ⌝ }
 {
-    let answer = StartAnswer::Refused(Refusal { number, place });
-    Turn { answer, state }
+    let mut i: usize = 0;
+    while i < n {
+        release[i] = numbers[1 + 4 * i];
+        i += 1;
+    }
+}
+
+// Begins the next cycle: next jobs 0 and offsets as at a cycle's start, of the n tasks; slots from n up stay.
+fn begin_again(numbers: &mut [u32; NUMBERS], n: usize)
+    requires few { ⌜ n ≤ 16 ⌝ }
+    requires another { ⌜ number-at (now numbers) book.cycle-at < book.last-cycle ⌝ }
+    requires long { ⌜ length (now numbers) ≡ book.number-count ⌝ }
+    ensures state { λ _. ⌜ state-from (now (numbers .exit)) ≡ in-next-cycle (state-from (now (numbers .entry))) n ⌝ }
+    ensures long { λ _. ⌜ length (now (numbers .exit)) ≡ book.number-count ⌝ }
+{
+    numbers[CYCLE] = numbers[CYCLE] + 1;
+    numbers[IDLE] = numbers[FIRST_IDLE];
+    let mut i: usize = 0;
+    while i < n {
+        numbers[NEXT + i] = 0;
+        numbers[INVERSIONS + i] = numbers[FIRST_INVERSIONS + i];
+        i += 1;
+    }
+}
+
+// Have all jobs of the cycle started: is no next release before its end?
+fn all_started(kept: &[[u32; 16]; 5], release: &[u32; 16]) -> bool
+    requires { ⌜ tasks-in (now kept) ≤ 16 ⌝ }
+    ensures { λ r. ⌜ AllStarted (now (kept .entry)) (now (release .entry)) r ⌝ }
+{
+    let n = kept[FIGURES][TASKS] as usize;
+    let h = kept[FIGURES][HYPERPERIOD];
+    let mut i: usize = 0;
+    while i < n {
+        if release[i] < h {
+            return false;
+        }
+        i += 1;
+    }
+    true
+}
+
+// The next job of this cycle, from a free instant, or, when all have started, the first of the next; 24 behind the last cycle.
+fn next_turn(
+    image: &[u8],
+    numbers: &mut [u32; NUMBERS],
+    kept: &[[u32; 16]; 5],
+    release: &[u32; 16],
+    free: u32,
+) -> StartAnswer
+    requires { ⌜ CanGoOn (now numbers) (now kept) (now release) free ⌝ }
+    ensures { λ r. ⌜ TurnStored (book.next-turn (now (image .entry)) (state-from (now (numbers .entry)))) r (now (numbers .exit)) ⌝ }
+{
+    if !all_started(kept, release) {
+        return start_next(image, numbers, kept, release, free);
+    }
+    if LAST_CYCLE <= numbers[CYCLE] {
+        return refused(24);
+    }
+    let n = kept[FIGURES][TASKS] as usize;
+    begin_again(numbers, n);
+    let mut first = [0u32; 16];
+    first_releases(numbers, n, &mut first);
+    start_next(image, numbers, kept, &first, 0)
 }
 
 // Is a job of a task the last one started, with the task's next job number; released when it started, and in time?
@@ -83,104 +221,27 @@ fn last_and_in_time(t: Task, next: u32, r: Running) -> bool
     (r.start as u64) + (t.time as u64) <= sets::due(t, r.job)
 }
 
-// The first n slots of one array, then the slots of another.
-fn front<'a>(n: usize, a: &'a [u32; 16], b: &'a [u32; 16]) -> [u32; 16]
-    requires few { ⌜ n ≤ 16 ⌝ }
-    requires slots { ⌜ length (now b) ≡ 16 ⌝ }
-    ensures { λ r. ⌜ r ≡ book.front n (now (a .entry)) (now (b .entry)) ⌝ }
+// What is kept of a task, into its slot of the rows.
+fn keep_task(kept: &mut [[u32; 16]; 5], i: usize, many: u32, t: Task)
+    requires rows { ⌜ length (now kept) ≡ 5 ⌝ }
+    requires slot { ⌜ i < 16 ⌝ }
+    requires fits { ⌜ t .time ≤ t .deadline ⌝ }
+    ensures { λ _. ⌜ now (kept .exit) ≡ with-task (now (kept .entry)) i many t ⌝ }
 {
-    let mut slots = *b;
-    let mut i: usize = 0;
-    while i < n {
-        slots[i] = a[i];
-        i += 1;
-    }
-    slots
+    kept[JOBS][i] = many;
+    kept[SLACK][i] = t.deadline - t.time;
+    kept[TIMES][i] = t.time;
+    kept[PERIODS][i] = t.period;
 }
 
-// The next start in a cycle, from next job numbers, a free instant and offsets, with the state after it; 25 where there is none. Of the set it is given the
-// hyperperiod and, for each task, its jobs a cycle, D − C and the release of its next job.
-fn start_next(
-    image: &[u8],
-    d: Dispatcher,
-    h: u32,
-    jobs: &[u32; 16],
-    slack: &[u32; 16],
-    cycle: u32,
-    next: [u32; 16],
-    release: &[u32; 16],
-    free: u32,
-    offsets: [u32; 16],
-    idle: u32,
-) -> Turn
-    requires fits { ⌜ Fits (book.set-of d) h (d .set .n) (now jobs) (now slack) next (now release) ⌝ }
-    requires within { ⌜ free ≤ h ⌝ }
-    ensures { λ r. ⌜ r ≡ book.start-next (now (image .entry)) d cycle (standing next free offsets idle) ⌝ }
+// What a call asks of each task: what is kept of it, beside the set's figures, and the release of its next job. False where a next job number is above
+// its task's jobs; then the rows are left as they came to be.
+fn measured(numbers: &[u32; NUMBERS], kept: &mut [[u32; 16]; 5], release: &mut [u32; 16]) -> bool
+    requires { ⌜ CanMeasure (now numbers) (now kept) (now release) ⌝ }
+    ensures { λ r. ⌜ Measured (now (numbers .entry)) (now (kept .entry)) r (now (kept .exit)) (now (release .exit)) ⌝ }
 {
-    let n = d.set.n as usize;
-    match replay::one_start(
-        image,
-        n,
-        h,
-        jobs,
-        slack,
-        &next,
-        release,
-        free,
-        idle,
-        &offsets,
-    ) {
-        NextStart::Stuck(_) => refused(25, 0, stopped()),
-        NextStart::Starts(f) => {
-            let i = f.task as usize;
-            let job = next[i];
-            let mut after = next;
-            after[i] = job + 1;
-            let mut moved = offsets;
-            moved[i] = f.inversion;
-            let answer = StartAnswer::Start(Start {
-                task: f.task,
-                job,
-                cycle,
-                time: (cycle as u64) * (h as u64) + (f.start as u64),
-            });
-            let set = d.set;
-            let running = Running {
-                task: f.task,
-                job,
-                start: f.start,
-            };
-            let now = Offsets {
-                idle: f.idle,
-                inversions: moved,
-            };
-            let first = d.first;
-            let state = Dispatcher {
-                set,
-                next: after,
-                cycle,
-                running,
-                now,
-                first,
-            };
-            Turn { answer, state }
-        }
-    }
-}
-
-// What a call asks of each task, into lent arrays: its jobs a cycle, D − C, and the release of its next job. False where a next job number is above
-// its task's jobs; then the arrays are left as they came to be.
-fn measured(
-    numbers: &[u32; 119],
-    h: u32,
-    n: usize,
-    jobs: &mut [u32; 16],
-    slack: &mut [u32; 16],
-    release: &mut [u32; 16],
-) -> bool
-    requires { ⌜ CanMeasure (now numbers) h n (now jobs) (now slack) (now release) ⌝ }
-    ensures { λ r. ⌜ Measured (now (numbers .entry)) h n r (now (jobs .exit)) (now (slack .exit)) (now (release .exit)) ⌝ }
-{
+    let n = kept[FIGURES][TASKS] as usize;
+    let h = kept[FIGURES][HYPERPERIOD];
     let mut before: u32 = 0;
     let mut many: u32 = 0;
     let mut i: usize = 0;
@@ -193,211 +254,72 @@ fn measured(
             many = sets::jobs(h, t);
             before = t.period;
         }
-        let next = numbers[65 + i];
+        let next = numbers[NEXT + i];
         if many < next {
             break 'tasks false;
         }
-        jobs[i] = many;
-        slack[i] = t.deadline - t.time;
+        keep_task(kept, i, many, t);
         release[i] = t.offset + next * t.period;
         i += 1;
     }
 }
 
-// The release of each of n tasks' job 0: its offset.
-fn first_releases(numbers: &[u32; 119], n: usize, release: &mut [u32; 16])
-    requires few { ⌜ n ≤ 16 ⌝ }
-    requires slots { ⌜ length (now release) ≡ 16 ⌝ }
-    ensures { λ _. ⌜ Filled (now (release .entry)) (λ (i : ℕ). number-at (now (numbers .entry)) (1 + 4 * i)) 0 n (now (release .exit)) ⌝ }
+// The rows of a state's set, of which the figures are filled in.
+fn with_figures(n: u32, f: Figures) -> [[u32; 16]; 5]
+    ensures { λ r. ⌜ r ≡ figures-kept n f ⌝ }
 {
-    let mut i: usize = 0;
-    while i < n {
-        release[i] = numbers[1 + 4 * i];
-        i += 1;
-    }
-}
-
-// The next start in a cycle, as a change of the state; it is stopped with 25 where there is none.
-fn moves(
-    image: &[u8],
-    again: bool,
-    n: usize,
-    h: u32,
-    jobs: &[u32; 16],
-    slack: &[u32; 16],
-    cycle: u32,
-    next: &[u32; 16],
-    release: &[u32; 16],
-    free: u32,
-    idle: u32,
-    offsets: &[u32; 16],
-) -> Going
-    requires from { ⌜ ((d : State) × StartFrom d again n h (now jobs) (now slack) cycle (now next) (now release) (now offsets)) ⌝ }
-    requires within { ⌜ free ≤ h ⌝ }
-    ensures { λ r. ⌜ ((d : State) →
-        StartFrom d again n h (now (jobs .entry)) (now (slack .entry)) cycle (now (next .entry)) (now (release .entry)) (now (offsets .entry)) →
-        Makes d (book.start-next (now (image .entry)) d cycle (standing (now (next .entry)) free (now (offsets .entry)) idle)) r) ⌝ }
-{
-    match replay::one_start(image, n, h, jobs, slack, next, release, free, idle, offsets) {
-        NextStart::Stuck(_) => Going::Stops(25),
-        NextStart::Starts(f) => {
-            let i = f.task as usize;
-            Going::Moves(Move {
-                again,
-                task: f.task,
-                job: next[i],
-                start: f.start,
-                idle: f.idle,
-                inversion: f.inversion,
-                time: (cycle as u64) * (h as u64) + (f.start as u64),
-            })
-        }
-    }
-}
-
-// The next job of this cycle, from a free instant, or, when all have started, the first of the next; 24 behind the last cycle.
-fn next_going(
-    image: &[u8],
-    numbers: &[u32; 119],
-    n: usize,
-    h: u32,
-    jobs: &[u32; 16],
-    slack: &[u32; 16],
-    release: &[u32; 16],
-    free: u32,
-) -> Going
-    requires { ⌜ CanGoOn (state-from (now numbers)) n h (now jobs) (now slack) (now release) free ⌝ }
-    ensures { λ r. ⌜ Makes (state-from (now (numbers .entry))) (book.next-turn (now (image .entry)) (state-from (now (numbers .entry)))) r ⌝ }
-{
-    let next = numbers::numbers_from(numbers, 65);
-    let offsets = numbers::numbers_from(numbers, 86);
-    let cycle = numbers[81];
-    if replay::all_started(n, h, release) {
-        if cycle < LAST_CYCLE {
-            let zeros = [0u32; 16];
-            let first = numbers::numbers_from(numbers, 103);
-            let none = front(n, &zeros, &next);
-            let again = front(n, &first, &offsets);
-            let mut releases = [0u32; 16];
-            first_releases(numbers, n, &mut releases);
-            return moves(
-                image,
-                true,
-                n,
-                h,
-                jobs,
-                slack,
-                cycle + 1,
-                &none,
-                &releases,
-                0,
-                numbers[102],
-                &again,
-            );
-        }
-        return Going::Stays(24);
-    }
-    moves(
-        image,
-        false,
-        n,
-        h,
-        jobs,
-        slack,
-        cycle,
-        &next,
-        release,
-        free,
-        numbers[85],
-        &offsets,
-    )
-}
-
-// The absolute time of an instant in a cycle of h ticks.
-fn absolute(cycle: u32, h: u32, at: u32) -> u64
-    ensures { λ r. ⌜ r ≡ cycle * h + at ⌝ }
-{
-    (cycle as u64) * (h as u64) + (at as u64)
+    let zeros = [0u32; 16];
+    let mut figures = [0u32; 16];
+    figures[TASKS] = n;
+    figures[HYPERPERIOD] = f.hyperperiod;
+    figures[ALL_JOBS] = f.jobs;
+    [figures, zeros, zeros, zeros, zeros]
 }
 
 // Going on with a state that is not stopped and whose set is good.
-fn going_good(image: &[u8], numbers: &[u32; 119], h: u32, end: u64) -> Going
-    requires { ⌜ WithGoodSet (state-from (now numbers)) h ⌝ }
-    ensures { λ r. ⌜ Makes (state-from (now (numbers .entry))) (book.go-on (now (image .entry)) (state-from (now (numbers .entry))) end) r ⌝ }
-{
-    let n = numbers[0] as usize;
-    let mut jobs = [0u32; 16];
-    let mut slack = [0u32; 16];
-    let mut release = [0u32; 16];
-    if !measured(numbers, h, n, &mut jobs, &mut slack, &mut release) {
-        return Going::Stops(25);
-    }
-    let running = Running {
-        task: numbers[82],
-        job: numbers[83],
-        start: numbers[84],
-    };
-    let i = running.task as usize;
-    if n <= i {
-        return Going::Stops(25);
-    }
-    let t = numbers::task_from(numbers, 1 + 4 * i);
-    if !last_and_in_time(t, numbers[65 + i], running) {
-        return Going::Stops(25);
-    }
-    let began = absolute(numbers[81], h, running.start);
-    if end < began {
-        return Going::Stays(21);
-    }
-    if (t.time as u64) < end - began {
-        return Going::Stops(22);
-    }
-    next_going(
-        image,
-        numbers,
-        n,
-        h,
-        &jobs,
-        &slack,
-        &release,
-        running.start + t.time,
-    )
-}
-
-// Are all numbers of a state 0? A state with a task is seen at once not to be stopped.
-fn is_stopped(numbers: &[u32]) -> bool
-    requires { ⌜ length (now numbers) ≡ book.number-count ⌝ }
-    ensures { λ r. ⌜ r ≡ book.is-stopped (state-from (now (numbers .entry))) ⌝ }
-{
-    let mut i: usize = 0;
-    while i < 119 {
-        if numbers[i] != 0 {
-            return false;
-        }
-        i += 1;
-    }
-    true
-}
-
-// Going on, in the order 23, 25 for the state, 21, 22, 24, 25 for bytes, as a change of the state.
-fn going(image: &[u8], numbers: &[u32; 119], end: u64) -> Going
-    ensures { λ r. ⌜ Makes (state-from (now (numbers .entry))) (book.go-on (now (image .entry)) (state-from (now (numbers .entry))) end) r ⌝ }
-{
-    if is_stopped(numbers) {
-        return Going::Stays(23);
-    }
-    match sets::judge_numbers(numbers[0], numbers, 1) {
-        SetAnswer::Refused(_) => Going::Stops(25),
-        SetAnswer::Good(f) => going_good(image, numbers, f.hyperperiod, end),
-    }
-}
-
-// Going on with the state's 119 numbers, of which those are stored that change.
-pub fn go_on_numbers(image: &[u8], numbers: &mut [u32; 119], end: u64) -> StartAnswer
+fn go_on_good(image: &[u8], numbers: &mut [u32; NUMBERS], f: Figures, end: u64) -> StartAnswer
+    requires { ⌜ WithGoodSet (now numbers) f ⌝ }
     ensures { λ r. ⌜ GoneOnNumbers (now (image .entry)) (now (numbers .entry)) end r (now (numbers .exit)) ⌝ }
 {
-    let g = going(image, numbers, end);
-    numbers::store(numbers, g)
+    let mut kept = with_figures(numbers[0], f);
+    let mut release = [0u32; 16];
+    if !measured(numbers, &mut kept, &mut release) {
+        return stop(numbers, 25, 0);
+    }
+    let running = Running {
+        task: numbers[TASK],
+        job: numbers[JOB],
+        start: numbers[START],
+    };
+    if numbers[0] <= running.task {
+        return stop(numbers, 25, 0);
+    }
+    let i = running.task as usize;
+    let t = numbers::task_from(numbers, 1 + 4 * i);
+    if !last_and_in_time(t, numbers[NEXT + i], running) {
+        return stop(numbers, 25, 0);
+    }
+    let began = absolute(numbers[CYCLE], f.hyperperiod, running.start);
+    if end < began {
+        return refused(21);
+    }
+    if (t.time as u64) < end - began {
+        return stop(numbers, 22, 0);
+    }
+    next_turn(image, numbers, &kept, &release, running.start + t.time)
+}
+
+// Going on with a state's numbers, in the order 23, 25 for the state, 21, 22, 24, 25 for bytes. Those are stored that change.
+pub fn go_on_numbers(image: &[u8], numbers: &mut [u32; NUMBERS], end: u64) -> StartAnswer
+    ensures { λ r. ⌜ GoneOnNumbers (now (image .entry)) (now (numbers .entry)) end r (now (numbers .exit)) ⌝ }
+{
+    if is_stopped(numbers) {
+        return refused(23);
+    }
+    match sets::judge_numbers(numbers[0], numbers, 1) {
+        SetAnswer::Refused(_) => stop(numbers, 25, 0),
+        SetAnswer::Good(f) => go_on_good(image, numbers, f, end),
+    }
 }
 
 // Going on, with the state handed in and back by value.
@@ -410,48 +332,51 @@ pub fn go_on(image: &[u8], d: Dispatcher, end: u64) -> Turn
     Turn { answer, state }
 }
 
-// Beginning: full acceptance, then the first start; a refused beginning hands back the stopped state.
-pub fn begin(image: &[u8]) -> Turn
-    ensures { λ r. ⌜ Begun (now (image .entry)) r ⌝ }
+// The state from which the first start of a set is made.
+fn fresh(set: TaskSet, first: Offsets) -> Dispatcher
+    ensures { λ r. ⌜ r ≡ fresh-state set first ⌝ }
 {
-    let t = tables::judge(image);
-    if t.refusal.number != 0 {
-        return refused(t.refusal.number, t.refusal.place, stopped());
-    }
-    let zeros = [0u32; 16];
-    let set = t.set;
     let running = Running {
         task: 0,
         job: 0,
         start: 0,
     };
-    let first = t.first;
-    let d = Dispatcher {
+    Dispatcher {
         set,
-        next: zeros,
+        next: [0u32; 16],
         cycle: 0,
         running,
         now: first,
         first,
-    };
-    let h = t.hyperperiod;
-    let jobs = records::jobs_of(h, set);
-    let slack = records::slack_of(set);
-    let release = replay::releases_of(set, &zeros);
-    let offsets = first.inversions;
-    start_next(
-        image,
-        d,
-        h,
-        &jobs,
-        &slack,
-        0,
-        zeros,
-        &release,
-        0,
-        offsets,
-        first.idle,
-    )
+    }
+}
+
+// Beginning, into numbers: full acceptance, then the first start; a refused beginning leaves the stopped state.
+pub fn begin_numbers(image: &[u8], numbers: &mut [u32; NUMBERS]) -> StartAnswer
+    ensures { λ r. ⌜ BegunNumbers (now (image .entry)) r (now (numbers .exit)) ⌝ }
+{
+    let mut kept = [[0u32; 16]; 5];
+    let t = tables::judge(image, &mut kept);
+    if t.refusal.number != 0 {
+        return stop(numbers, t.refusal.number, t.refusal.place);
+    }
+    let set = t.set;
+    let first = t.first;
+    *numbers = numbers::numbers_of(fresh(set, first));
+    let n = kept[FIGURES][TASKS] as usize;
+    let mut release = [0u32; 16];
+    first_releases(numbers, n, &mut release);
+    start_next(image, numbers, &kept, &release, 0)
+}
+
+// Beginning, with the state handed back by value.
+pub fn begin(image: &[u8]) -> Turn
+    ensures { λ r. ⌜ Begun (now (image .entry)) r ⌝ }
+{
+    let mut numbers = [0u32; NUMBERS];
+    let answer = begin_numbers(image, &mut numbers);
+    let state = numbers::state_from(&numbers);
+    Turn { answer, state }
 }
 
 // Going on in place: the state behind the reference becomes the one that going on hands back.

@@ -1,6 +1,7 @@
 -- A walk over the SL records of a timetable's image: each whole one leads to the next place of framing, and where none stands, the image lists no more.
 -- Assumes nothing.
 use mathlib.Core.Path.{_≡_, refl, sym, _∙_, ap}
+use mathlib.Core.Logic.{inl, inr}
 use mathlib.Core.Bool.{true, false}
 use mathlib.Core.List.{List}
 use Prim.Native.Nat.{ℕ, suc, _≤_}
@@ -11,7 +12,7 @@ use Rattle.rules.specs.declared.Place.{Place}
 use Rattle.rules.specs.declared.Layout.{Layout}
 use Rattle.rules.specs.Refusals.{Judged, gives}
 use Rattle.rules.specs.Marks.{Mark, TS, TK, SL, row, size, values}
-use Rattle.rules.specs.Framing.{after-listed, goes-on, ends, Allowed, frame-records, frame}
+use Rattle.rules.specs.Framing.{after-later, goes-on, ends, Allowed, frame-records, frame}
 use Rattle.rules.proofs.Cases.{clash, differ, both-in}
 use Rattle.rules.proofs.Marked.{due-turn, found-allowed}
 use Rattle.rules.proofs.FramingTurns as turns
@@ -25,9 +26,9 @@ use Rattle.framing.proofs.FromPlace.{frame-given, ended-at, listed-from
 none-after : {s t : Place} {m : Mark} {v : List ℕ} (rest : List ℕ) → 2 ≤ s .rank → (m ≡ SL → ⊥) → Allowed 1 s rest m → turns.After 1 s m v (goes-on t) → ⊥
 none-after {s = s} rest behind other a (turns.past-head e) = omega (arith, due-turn (s .rank) (row TS .rank) (omega arith) (a .its-turn))
 none-after {s = s} rest behind other a turns.past-task = omega (arith, due-turn (s .rank) (row TK .rank) (omega arith) (a .its-turn))
-none-after rest behind other a turns.past-entry = other refl
-none-after rest behind other a turns.past-idle = differ (sym (a .of-kind))
-none-after rest behind other a turns.past-inversion = differ (sym (a .of-kind))
+none-after rest behind other a (turns.past-later l e (turns.one-listed (inl is))) = other is
+none-after rest behind other a (turns.past-later l e (turns.one-listed (inr is))) = differ (sym (rw is at (a .of-kind)))
+none-after rest behind other a (turns.past-later l e (turns.one-inversion is)) = differ (sym (rw is at (a .of-kind)))
 
 -- so the layout lists what the place lists
 none-from : {s : Place} {bytes : List ℕ} {z : Judged Layout} → turns.Frames 1 s bytes z → (l : Layout) → z ≡ gives l → 2 ≤ s .rank →
@@ -52,15 +53,17 @@ module _ {bytes : List ℕ} {s : Place} (re : Reached 1 bytes s) (behind : 2 ≤
   from-here l e = sym (re .same) ∙ frame-given 1 bytes l e
 
   -- framing comes to the place behind an entry
-  past-entry : stands-at bytes (s .offset) SL ≡ true → Reached 1 bytes (after-listed SL s)
-  past-entry e = past-record SL re refl (in-later-turn (s .rank) (row SL .rank) behind low) e (after-listed SL s) refl
+  abbrev behind-entry : Place
+  behind-entry = after-later SL s (suc (s .listed)) (s .inversions)
+
+  past-entry : stands-at bytes (s .offset) SL ≡ true → Reached 1 bytes behind-entry
+  past-entry e = past-record SL re refl (in-later-turn (s .rank) (row SL .rank) behind low) e behind-entry refl
 
   -- behind which one more is listed
   pub entry-counted : stands-at bytes (s .offset) SL ≡ true → (l : Layout) → frame 1 bytes ≡ gives l → suc (s .listed) ≤ l .listed
   entry-counted e l g =
-      let next = after-listed SL s in
-      let f : frame-records 1 next (drop (next .offset) bytes) ≡ gives l = sym (past-entry e .same) ∙ frame-given 1 bytes l g in
-      listed-from (turns.frames 1 next (drop (next .offset) bytes)) l f (omega arith) .1
+      let f : frame-records 1 behind-entry (drop (behind-entry .offset) bytes) ≡ gives l = sym (past-entry e .same) ∙ frame-given 1 bytes l g in
+      listed-from (turns.frames 1 behind-entry (drop (behind-entry .offset) bytes)) l f (omega arith) .1
 
   -- where none stands, no more is listed
   pub no-entry-more : stands-at bytes (s .offset) SL ≡ false → (l : Layout) → frame 1 bytes ≡ gives l → l .listed ≡ s .listed

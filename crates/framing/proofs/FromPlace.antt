@@ -12,7 +12,7 @@ use Rattle.rules.specs.Refusals.{Judged, gives, refuses, or-else, unless}
 use Rattle.rules.specs.Marks.{Mark, TS, TK, row, values}
 use Rattle.rules.specs.Framing.{start-place, may-follow, goes-on, ends, nothing-follows, index-of-end, frame-records, frame}
 use Rattle.rules.proofs.Cases.{clash, then-gives, or-else-gives}
-use Rattle.rules.proofs.Marked.{due-turn, found-allowed}
+use Rattle.rules.proofs.Marked.{not-lower, due-turn, found-allowed}
 use Rattle.rules.proofs.FramingTurns as turns
 use Rattle.framing.proofs.PlaceLaws.{refused-place}
 
@@ -27,9 +27,7 @@ listed-after : {kind : ℕ} {s t : Place} {m : Mark} {v : List ℕ} → 2 ≤ s 
     turns.After kind s m v (goes-on t) → (t .tasks ≡ s .tasks) × (s .listed ≤ t .listed) × (2 ≤ t .rank)
 listed-after {s = s} behind turn (turns.past-head e) = absurd (omega (arith, due-turn (s .rank) (row TS .rank) (omega arith) turn))
 listed-after {s = s} behind turn turns.past-task = absurd (omega (arith, due-turn (s .rank) (row TK .rank) (omega arith) turn))
-listed-after behind turn turns.past-entry = (refl, omega arith, omega arith)
-listed-after behind turn turns.past-idle = (refl, omega arith, omega arith)
-listed-after behind turn turns.past-inversion = (refl, omega arith, omega arith)
+listed-after {s = s} {m = m} behind turn (turns.past-later l e c) = (refl, omega (arith, turns.counted c), omega (arith, not-lower (row m)))
 
 -- EN's layout is the place's
 pub ended-at : {kind : ℕ} {s : Place} {m : Mark} {v : List ℕ} {l : Layout} → turns.After kind s m v (ends (gives l)) →

@@ -13,10 +13,10 @@ use Rattle.rules.specs.declared.Refusal.{Refusal}
 use Rattle.rules.specs.Refusals.{gives, refuses, first, unless}
 use Rattle.rules.specs.Tasks.{few-enough}
 use Rattle.rules.specs.Priority.{slot}
-use Rattle.rules.specs.Marks.{Mark, TS, TK, SL, ID, PV, EN, row, size}
+use Rattle.rules.specs.Marks.{Mark, TS, TK, EN, row, size, head-count-of}
 use Rattle.rules.specs.Framing.{may-follow, tasks-due, goes-on, ends, index-of-end, start-place}
 use Rattle.rules.proofs.Cases.{clash}
-use Rattle.rules.proofs.Marked.{due-turn, later-turn}
+use Rattle.rules.proofs.Marked.{not-lower, due-turn, later-turn}
 use Rattle.rules.proofs.FramingTurns as turns
 use Rattle.framing.specs.Frames.{Placed}
 
@@ -38,7 +38,7 @@ placed-at-start bytes = record {
 
 -- behind the TK records
 placed-behind : (bytes : List ℕ) (t : Place) → t .offset ≤ length bytes → t .index ≤ t .offset → 2 ≤ t .rank →
-    t .index ≡ suc (t .tasks + (t .listed + t .inversions)) → Placed bytes t
+    t .index ≡ head-count-of (t .tasks) + (t .listed + t .inversions) → Placed bytes t
 placed-behind bytes t inside few rank counted = record {
   inside = inside;
   few = few;
@@ -64,7 +64,7 @@ placed-due bytes index offset (suc due) n inside few counted = record {
 
 -- a mark that comes behind the TK records finds them counted
 counted-behind : {s : Place} (bytes : List ℕ) (m : Mark) → 2 ≤ row m .rank → Placed bytes s → may-follow (s .rank) (row m .rank) ≡ true →
-    s .index ≡ suc (s .tasks + (s .listed + s .inversions))
+    s .index ≡ head-count-of (s .tasks) + (s .listed + s .inversions)
 counted-behind {s = s} bytes m h p turn = p .behind-tasks (later-turn (s .rank) (row m .rank) h turn .0)
 
 -- a record that framing goes on behind leads to a place in the image
@@ -77,21 +77,15 @@ placed-after {s = s} bytes p whole turn (turns.past-head {v = v} e) =
 placed-after {s = s} bytes p whole turn turns.past-task =
     let counted = p .tasks-due (due-turn (s .rank) (row TK .rank) (omega arith) turn) in
     placed-due bytes (suc (s .index)) (s .offset + size TK) (s .due - 1) (s .tasks) whole (omega arith) (omega arith)
-placed-after {t = t} bytes p whole turn turns.past-entry =
-    let counted = counted-behind bytes SL (omega arith) p turn in
-    placed-behind bytes t whole (omega arith) (omega arith) (omega arith)
-placed-after {t = t} bytes p whole turn turns.past-idle =
-    let counted = counted-behind bytes ID (omega arith) p turn in
-    placed-behind bytes t whole (omega arith) (omega arith) (omega arith)
-placed-after {t = t} bytes p whole turn turns.past-inversion =
-    let counted = counted-behind bytes PV (omega arith) p turn in
-    placed-behind bytes t whole (omega arith) (omega arith) (omega arith)
+placed-after {t = t} {m = m} bytes p whole turn (turns.past-later l e c) =
+    let before = counted-behind bytes m l p turn in
+    placed-behind bytes t whole (omega arith) (omega (arith, not-lower (row m))) (omega (arith, turns.counted c))
 
 -- where EN ends framing, its index follows from the layout, and the tasks stand before it
 pub end-index : {kind : ℕ} {s : Place} {m : Mark} {v : List ℕ} {l : Layout} (bytes : List ℕ) → Placed bytes s → may-follow (s .rank) (row m .rank) ≡ true →
     turns.After kind s m v (ends (gives l)) → (index-of-end l ≡ s .index) × (2 ≤ s .rank)
 end-index {s = s} bytes p turn (turns.past-end e) =
-    (sym (counted-behind bytes EN (omega arith) p turn), later-turn (s .rank) (row EN .rank) (omega arith) turn .0)
+    (omega (arith, counted-behind bytes EN (omega arith) p turn), later-turn (s .rank) (row EN .rank) (omega arith) turn .0)
 
 -- a test that fails refuses at its place
 unless-place : (b : Bool) (number place : ℕ) (r : Refusal) → unless b number place ≡ some r → r .place ≡ place

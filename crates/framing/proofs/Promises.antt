@@ -9,6 +9,7 @@ use Rattle.rules.specs.declared.Place.{Place}
 use Rattle.rules.specs.declared.Layout.{Layout}
 use Rattle.rules.specs.declared.Refusal.{Refusal}
 use Rattle.rules.specs.Refusals.{Judged, gives, refuses, or-else, unless}
+use Rattle.rules.specs.Marks.{head-count-of, head-length-of}
 use Rattle.rules.specs.Framing.{start-place, nothing-follows, index-of-end, frame-records, frame}
 use Rattle.rules.proofs.Cases.{clash, by-judged}
 use Rattle.rules.proofs.FramingTurns as turns
@@ -17,7 +18,6 @@ use Rattle.framing.specs.declared.FrameAnswer.the-variants.{Framed, Refu
 use Rattle.framing.specs.declared.TasksAnswer.{TasksAnswer}
 use Rattle.framing.specs.declared.TasksAnswer.the-variants as tasks-case
 use Rattle.framing.specs.Frames.{BehindTasks, TasksFramed, frame-answer}
-use Rattle.framing.specs.SetRead.{tasks-offset}
 use Rattle.framing.proofs.FromPlace.{listed-from, refused-from}
 
 -- two results that meet the contract of `frame` are equal
@@ -35,7 +35,7 @@ refused-is (refuses q) r e = let same : r ≡ q = cc in ap refuses (sym same)
 
 -- the place behind n tasks
 abbrev behind : ℕ → Place
-behind n = record { index = suc n; offset = tasks-offset n; rank = 2; due = 0; tasks = n; listed = 0; inversions = 0 }
+behind n = record { index = head-count-of n; offset = head-length-of n; rank = 2; due = 0; tasks = n; listed = 0; inversions = 0 }
 
 -- the place behind the tasks is told by the image
 place-told : (bytes : List ℕ) (s : Place) → BehindTasks bytes s → s ≡ behind (getD bytes 4 0)

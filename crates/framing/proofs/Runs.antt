@@ -1,26 +1,26 @@
 -- Records with one mark that stand one behind the other: how they are counted, and that framing comes to the place behind them. Assumes nothing.
-use mathlib.Core.Path.{_≡_, refl, sym, _∙_, ap, subst}
-use mathlib.Core.Bool.{true}
+use mathlib.Core.Path.{_≡_, refl, sym, _∙_, ap, ap₂, subst}
+use mathlib.Core.Bool.{true, false}
 use mathlib.Core.List.{List}
 use Prim.Native.Nat.{ℕ, zero, suc, _+_, _-_, _*_, _≤_, _<_}
 use native.Mathlib.Nat.{zero-mul, suc-mul}
 use native.Mathlib.Numerals.{add-one}
 use native.Mathlib.Omega.{arith}
-use borrow.Author.Tests.{leb-true, eq-eqb, ne-eqb, eqb-true}
+use borrow.Author.Tests.{leb-true, eqb-true}
 use lib.Dec.{leb, eqb}
 use lib.ListN.{length, getD, drop}
 use lib.Seq.{drop-drop}
 use Rattle.rules.specs.declared.Place.{Place}
-use Rattle.rules.specs.Marks.{Mark, TK, PV, row, size, body-length, values}
-use Rattle.rules.specs.Framing.{in-kind, may-follow, rank-due, tasks-due, after-listed, after-inversion, after, goes-on, frame-records}
+use Rattle.rules.specs.Marks.{Mark, TK, ID, PV, row, size, values}
+use Rattle.rules.specs.Framing.{in-kind, may-follow, least-behind, rank-due, tasks-due, after-later, after, goes-on, frame-records}
 use Rattle.rules.proofs.Cases.{by-bool, by-nat, by-eq, by-le, both-true}
-use Rattle.rules.proofs.Marked.{allowed-found}
+use Rattle.rules.proofs.Marked.{behind-once, behind-many, allowed-found}
 use Rattle.rules.proofs.FramingTurns as turns
 use Rattle.rules.proofs.Shapes.{in-later-turn}
 use Rattle.images.specs.declared.Row.{Row}
-use Rattle.images.specs.Table.{mark-of, code-row, stands-at}
+use Rattle.images.specs.Table.{code-row, stands-at}
 use Rattle.images.proofs.TableLaws.{stands-whole}
-use Rattle.framing.specs.Frames.{Reached, RunOf, TowardsTasks, TasksPassed}
+use Rattle.framing.specs.Frames.{behind-run, Reached, RunOf, TowardsTasks, TasksPassed}
 use Rattle.framing.proofs.PlaceLaws.{place-path, placed-after}
 use Rattle.framing.proofs.TaskLaws.{towards-due}
 
@@ -31,9 +31,9 @@ none-run bytes from m most h =
     (omega arith, record { asked = omega arith; inside = omega arith; stand = λ j l. absurd (omega arith) })
 
 -- then one more that stands behind those counted
-pub one-more : (bytes : List ℕ) (from : ℕ) (m : Mark) (most many at len : ℕ) → len ≡ body-length m → at ≡ from + many * size m →
+pub one-more : (bytes : List ℕ) (from : ℕ) (m : Mark) (most many at len : ℕ) → len ≡ size m → at ≡ from + many * size m →
     RunOf bytes from m most many → many < most → stands-at bytes at m ≡ true →
-    (at + (len + 2) ≡ from + (many + 1) * size m) × RunOf bytes from m most (many + 1)
+    (at + len ≡ from + (many + 1) * size m) × RunOf bytes from m most (many + 1)
 one-more bytes from m most many at len e here run few stands =
     let longer : (many + 1) * size m ≡ many * size m + size m = rw add-one (suc-mul many (size m)) in
     let whole = stands-whole bytes at m stands in (
@@ -89,11 +89,6 @@ past-run m from many place of-kind a stand re (suc i) h =
     past-record m (past-run m from many place of-kind a stand re i (omega arith)) of-kind (a .in-turn i (omega arith))
     (rw (a .at i) (stand i (omega arith))) (place (suc i)) (a .leads i (omega arith) _)
 
--- the bytes of a run, with the length of a body as it was read, end inside the image
-pub run-inside : {bytes : List ℕ} {from : ℕ} {m : Mark} {most many : ℕ} (len : ℕ) → len ≡ body-length m → RunOf bytes from m most many →
-    from + many * (len + 2) ≤ length bytes
-run-inside {m = m} len e run = let whole : len + 2 ≡ size m = omega arith in rw whole (run .inside)
-
 -- where a task is due, the rank is that of TK
 due-rank : (due : ℕ) → 1 ≤ due → rank-due due ≡ 1
 due-rank zero h = absurd (omega arith)
@@ -140,17 +135,17 @@ module _ {kind : ℕ} {bytes : List ℕ} {s : Place} (re : Reached kind bytes s)
       (w .nothing-listed .0) (w .nothing-listed .1)
 
   -- framing comes to the place that the code has, which is on the way and not before this one
-  pub tasks-passed : (many len rank : ℕ) → RunOf bytes (s .offset) TK (s .due) many → len ≡ size TK → rank ≡ rank-due (s .due - many) →
+  pub tasks-passed : (many rank : ℕ) → RunOf bytes (s .offset) TK (s .due) many → rank ≡ rank-due (s .due - many) →
       (t : Place) → t ≡ record {
         index = s .index + many;
-        offset = s .offset + many * len;
+        offset = s .offset + many * size TK;
         rank = rank;
         due = s .due - many;
         tasks = s .tasks;
         listed = s .listed;
         inversions = s .inversions;
       } → TasksPassed kind bytes s t
-  tasks-passed many len rank run e its-rank t is =
+  tasks-passed many rank run its-rank t is =
       let a = w .announced (omega (arith, is-due)) in
       let b = w .counted (omega (arith, is-due)) in
       let few = run .asked in
@@ -159,119 +154,110 @@ module _ {kind : ℕ} {bytes : List ℕ} {s : Place} (re : Reached kind bytes s)
       (subst (λ (p : Place). Reached kind bytes p) from-here re) many (omega arith) in
       let towards : TowardsTasks bytes (tasks-behind s many) =
       towards-due bytes (s .index + many) (s .offset + many * size TK) (s .due - many) (s .tasks) (a .0) (a .1) (a .2) (omega arith) (omega arith) in
-      rw (is, e, its-rank, w .nothing-listed .0, w .nothing-listed .1) (record { reached = reached; towards = towards; onwards = omega arith })
+      rw (is, its-rank, w .nothing-listed .0, w .nothing-listed .1) (record { reached = reached; towards = towards; onwards = omega arith })
 
--- a mark whose records an image of a kind lists: SL or ID
-pub record Lists (kind : ℕ) (m : Mark) : Type 0 where
+-- the rank behind a record, with the row that was read
+module _ (m : Mark) (r : Row) (read : r ≡ code-row m) (rank : ℕ) where
+  pub once-rank : r .once ≡ true → rank ≡ r .rank + 1 → rank ≡ least-behind (row m)
+  once-rank e is = is ∙ ap (λ (q : Row). q .rank + 1) read ∙ add-one (row m .rank) ∙ behind-once (row m) (rw read at e)
+
+  pub own-rank : r .once ≡ false → rank ≡ r .rank → rank ≡ least-behind (row m)
+  own-rank e is = is ∙ ap (λ (q : Row). q .rank) read ∙ behind-many (row m) (rw read at e)
+
+-- the place behind a run, as the code makes it
+module _ (m : Mark) (s : Place) (listed inversions many : ℕ) where
+  pub none-passed : many < 1 → s ≡ behind-run m s many listed inversions
+  unfolding behind-run
+  none-passed h = by-nat many (λ z. rw z) (λ j z. absurd (omega arith))
+
+  pub some-passed : (r : Row) (rank : ℕ) → r ≡ code-row m → 1 ≤ many → rank ≡ least-behind (row m) →
+      record {
+        index = s .index + many;
+        offset = s .offset + many * r .size;
+        rank = rank;
+        due = s .due;
+        tasks = s .tasks;
+        listed = listed;
+        inversions = inversions;
+      } ≡ behind-run m s many listed inversions
+  unfolding behind-run
+  some-passed r rank read some e = by-nat many (λ z. absurd (omega arith)) (λ j z. rw (read, e, z))
+
+-- records with one mark between the tasks and EN, which may stand one behind the other: what is counted behind so many of them
+pub record Counted (kind : ℕ) (m : Mark) (s : Place) (listed inversions : ℕ → ℕ) : Type 0 where
   pub of-kind : in-kind kind (row m) ≡ true
-  pub goes : (t : Place) (v : List ℕ) → after kind t m v ≡ goes-on (after-listed m t)
-  pub rank : row m .rank ≡ 6
+  pub again : row m .once ≡ false
+  pub none-yet : (s .listed ≡ listed 0) × (s .inversions ≡ inversions 0)
+  pub goes : (t : Place) (j : ℕ) (v : List ℕ) → t .listed ≡ listed j → t .inversions ≡ inversions j →
+      after kind t m v ≡ goes-on (after-later m t (listed (suc j)) (inversions (suc j)))
 
--- a timetable's image lists SL records
-pub lists-entries : (kind k : ℕ) → kind ≡ 1 → k ≡ 2 → Lists kind (mark-of k)
-lists-entries kind k e is = rw is (record { of-kind = rw (eq-eqb kind 1 e, in-kind); goes = λ t v. refl; rank = refl })
+-- behind the tasks each of the places behind them leads to the next
+module _ (kind : ℕ) (m : Mark) (s : Place) (listed inversions : ℕ → ℕ) (c : Counted kind m s listed inversions) (behind : 2 ≤ s .rank)
+    (low : s .rank ≤ row m .rank) where
+  abbrev place : ℕ → Place
+  place j = behind-run m s j (listed j) (inversions j)
 
--- and every other image ID records
-pub lists-idles : (kind k : ℕ) → (kind ≡ 1 → ⊥) → k ≡ 3 → Lists kind (mark-of k)
-lists-idles kind k n is = rw is (record { of-kind = rw (ne-eqb kind 1 n, in-kind); goes = λ t v. refl; rank = refl })
-
--- the place behind so many of them
-abbrev listed-behind : Mark → Place → ℕ → Place
-listed-behind m s zero = s
-listed-behind m s (suc j) = record {
-  index = s .index + suc j;
-  offset = s .offset + suc j * size m;
-  rank = row m .rank;
-  due = s .due;
-  tasks = s .tasks;
-  listed = s .listed + suc j;
-  inversions = s .inversions;
-}
-
--- the place behind so many PV records
-abbrev inversions-behind : Place → ℕ → Place
-inversions-behind s zero = s
-inversions-behind s (suc j) = record {
-  index = s .index + suc j;
-  offset = s .offset + suc j * size PV;
-  rank = row PV .rank;
-  due = s .due;
-  tasks = s .tasks;
-  listed = s .listed;
-  inversions = s .inversions + suc j;
-}
-
--- behind the tasks each of these places leads to the next
-module _ (kind : ℕ) (s : Place) (behind : 2 ≤ s .rank) where
-  -- records that are listed
-  listed-apart : (m : Mark) → Lists kind m → s .rank ≤ row m .rank → (many : ℕ) → Apart kind m (s .offset) many (listed-behind m s)
-  listed-apart m l low many = record { at = at; in-turn = λ j h. turn j; leads = λ j h v. l .goes (listed-behind m s j) v ∙ ap goes-on (next j) }
+  run-apart : (many : ℕ) → Apart kind m (s .offset) many place
+  unfolding behind-run
+  run-apart many = record {
+    at = at;
+    in-turn = λ j h. turn j;
+    leads = λ j h v. c .goes (place j) j v (counted j .0) (counted j .1) ∙ ap goes-on (next j);
+  }
     where
-      at : (j : ℕ) → listed-behind m s j .offset ≡ s .offset + j * size m
+      own : row m .rank ≡ least-behind (row m)
+      own = behind-many (row m) (c .again)
+
+      at : (j : ℕ) → place j .offset ≡ s .offset + j * size m
       at zero = omega (arith, zero-mul (size m))
       at (suc j) = refl
 
-      turn : (j : ℕ) → may-follow (listed-behind m s j .rank) (row m .rank) ≡ true
+      turn : (j : ℕ) → may-follow (place j .rank) (row m .rank) ≡ true
       turn zero = in-later-turn (s .rank) (row m .rank) behind low
-      turn (suc j) = in-later-turn (row m .rank) (row m .rank) (omega arith) (omega arith)
+      turn (suc j) = in-later-turn (least-behind (row m)) (row m .rank) (omega (arith, own)) (omega (arith, own))
 
-      next : (j : ℕ) → after-listed m (listed-behind m s j) ≡ listed-behind m s (suc j)
-      next zero =
-          place-path _ (listed-behind m s 1) (omega arith) (omega (arith, suc-mul 0 (size m), zero-mul (size m))) refl refl refl (omega arith) refl
-      next (suc j) =
-          place-path _ (listed-behind m s (suc (suc j))) (omega arith) (omega (arith, suc-mul (suc j) (size m))) refl refl refl (omega arith) refl
+      counted : (j : ℕ) → (place j .listed ≡ listed j) × (place j .inversions ≡ inversions j)
+      counted zero = c .none-yet
+      counted (suc j) = (refl, refl)
 
-  -- PV records
-  inversions-apart : s .rank ≤ row PV .rank → (many : ℕ) → Apart kind PV (s .offset) many (inversions-behind s)
-  inversions-apart low many = record { at = at; in-turn = λ j h. turn j; leads = λ j h v. ap goes-on (next j) }
-    where
-      at : (j : ℕ) → inversions-behind s j .offset ≡ s .offset + j * size PV
-      at zero = omega arith
-      at (suc j) = refl
+      next : (j : ℕ) → after-later m (place j) (listed (suc j)) (inversions (suc j)) ≡ place (suc j)
+      next zero = place-path _ (place 1) (omega arith) (omega (arith, suc-mul 0 (size m), zero-mul (size m))) refl refl refl refl refl
+      next (suc j) = place-path _ (place (suc (suc j))) (omega arith) (omega (arith, suc-mul (suc j) (size m))) refl refl refl refl refl
 
-      turn : (j : ℕ) → may-follow (inversions-behind s j .rank) (row PV .rank) ≡ true
-      turn zero = in-later-turn (s .rank) (row PV .rank) behind low
-      turn (suc j) = refl
+  -- so framing comes to the place behind a run of them
+  pub run-passed : {bytes : List ℕ} (most many : ℕ) → Reached kind bytes s → RunOf bytes (s .offset) m most many →
+      Reached kind bytes (behind-run m s many (listed many) (inversions many))
+  unfolding behind-run
+  run-passed most many re run = past-run m (s .offset) many place (c .of-kind) (run-apart many) (run .stand) re many (omega arith)
 
-      next : (j : ℕ) → after-inversion (inversions-behind s j) ≡ inversions-behind s (suc j)
-      next zero = place-path _ (inversions-behind s 1) (omega arith) (omega arith) refl refl refl refl (omega arith)
-      next (suc j) = place-path _ (inversions-behind s (suc (suc j))) (omega arith) (omega arith) refl refl refl refl (omega arith)
-
--- so a run of one mark leads from a place behind the tasks to the place behind the run, with the row that was read
-module _ {kind : ℕ} {bytes : List ℕ} {s : Place} (re : Reached kind bytes s) (behind : 2 ≤ s .rank) where
-  -- records that are listed
-  pub listed-passed : (m : Mark) (r : Row) (most many : ℕ) → Lists kind m → s .rank ≤ 6 → r ≡ code-row m →
-      RunOf bytes (s .offset) m most many → 1 ≤ many → Reached kind bytes
+-- in an image of tables, from a place behind the tasks on: ID records, then PV records
+module _ {bytes : List ℕ} {s : Place} (re : Reached 2 bytes s) (behind : 2 ≤ s .rank) (low : s .rank ≤ row ID .rank) where
+  pub idles-passed : (most many : ℕ) → RunOf bytes (s .offset) ID most many → Reached 2 bytes (behind-run ID s many (s .listed + many) (s .inversions))
+  idles-passed most many run =
+      run-passed 2 ID s (λ (j : ℕ). s .listed + j) (λ (j : ℕ). s .inversions)
       (record {
-        index = s .index + many;
-        offset = s .offset + many * (r .body + 2);
-        rank = r .rank;
-        due = s .due;
-        tasks = s .tasks;
-        listed = s .listed + many;
-        inversions = s .inversions;
+        of-kind = refl;
+        again = refl;
+        none-yet = (omega arith, refl);
+        goes = λ t j v p q. ap₂ (λ (x y : ℕ). goes-on (after-later ID t x y)) (omega arith) q;
       })
-  listed-passed m r most zero l low read run some = absurd (omega arith)
-  listed-passed m r most (suc many) l low read run some =
-      let bytes-of : r .body + 2 ≡ size m = omega (arith, ap (λ (q : Row). q .body) read) in
-      rw (bytes-of, ap (λ (q : Row). q .rank) read)
-      (past-run m (s .offset) (suc many) (listed-behind m s) (l .of-kind)
-      (listed-apart kind s behind m l (omega (arith, l .rank)) (suc many)) (run .stand) re (suc many) (omega arith))
+      behind low most many re run
 
-  -- PV records
-  pub inversions-passed : (r : Row) (most many : ℕ) → (kind ≡ 1 → ⊥) → s .rank ≤ 6 → r ≡ code-row PV →
-      RunOf bytes (s .offset) PV most many → 1 ≤ many → Reached kind bytes
-      (record {
-        index = s .index + many;
-        offset = s .offset + many * (r .body + 2);
-        rank = r .rank;
-        due = s .due;
-        tasks = s .tasks;
-        listed = s .listed;
-        inversions = s .inversions + many;
-      })
-  inversions-passed r most zero n low read run some = absurd (omega arith)
-  inversions-passed r most (suc many) n low read run some =
-      rw read
-      (past-run PV (s .offset) (suc many) (inversions-behind s) (rw (ne-eqb kind 1 n, in-kind))
-      (inversions-apart kind s behind (omega arith) (suc many)) (run .stand) re (suc many) (omega arith))
+  -- behind which PV records may stand
+  pub idles-rank : (many listed inversions : ℕ) →
+      (2 ≤ behind-run ID s many listed inversions .rank) × (behind-run ID s many listed inversions .rank ≤ row PV .rank)
+  unfolding behind-run
+  idles-rank zero listed inversions = (omega arith, omega arith)
+  idles-rank (suc many) listed inversions = (omega arith, omega arith)
+
+pub inversions-passed : {bytes : List ℕ} {s : Place} → Reached 2 bytes s → 2 ≤ s .rank → s .rank ≤ row PV .rank → (most many : ℕ) →
+    RunOf bytes (s .offset) PV most many → Reached 2 bytes (behind-run PV s many (s .listed) (s .inversions + many))
+inversions-passed {s = s} re behind low most many run =
+    run-passed 2 PV s (λ (j : ℕ). s .listed) (λ (j : ℕ). s .inversions + j)
+    (record {
+      of-kind = refl;
+      again = refl;
+      none-yet = (refl, omega arith);
+      goes = λ t j v p q. ap₂ (λ (x y : ℕ). goes-on (after-later PV t x y)) p (omega arith);
+    })
+    behind low most many re run

@@ -10,12 +10,12 @@ use lib.Seq.{set-at, append-snoc, drop-drop, take-at}
 use Rattle.rules.specs.declared.Task.{Task}
 use Rattle.rules.specs.declared.Layout.{Layout}
 use Rattle.rules.specs.Tasks.{limits}
-use Rattle.rules.specs.Marks.{TS, TK, size, body-length}
+use Rattle.rules.specs.Marks.{TS, TK, size, body-length, head-length-of}
 use Rattle.rules.specs.Image.{to-task}
-use Rattle.rules.specs.Framing.{read, tasks-in}
+use Rattle.rules.specs.Framing.{read, set-in}
 use Rattle.rules.specs.Dispatcher.{zero-task}
 use Rattle.images.specs.Bodies.{part-of, task-of}
-use Rattle.framing.specs.SetRead.{tasks-offset, tasks-at, set-read}
+use Rattle.framing.specs.SetRead.{tasks-at, set-read}
 use Rattle.images.proofs.BodyLaws.{task-body-is}
 
 module _ (bytes : List ℕ) where
@@ -68,8 +68,8 @@ module _ (bytes : List ℕ) where
       ap₂ _∷_ (task-body-is bytes at (omega arith)) (rw (drop-drop (size TK) at bytes) (tasks-read (at + size TK) many (omega arith)))
 
   -- and the set read of an image with a layout holds them
-  pub set-read-is : (l : Layout) → tasks-offset (l .tasks) ≤ length bytes →
-      set-read (l .tasks) bytes ≡ record { n = l .tasks; tasks = tasks-in l bytes ++ replicate (16 - l .tasks) zero-task }
+  pub set-read-is : (l : Layout) → head-length-of (l .tasks) ≤ length bytes →
+      set-read (l .tasks) bytes ≡ record { n = l .tasks; tasks = set-in l bytes .tasks ++ replicate (16 - l .tasks) zero-task }
   unfolding set-read
   set-read-is l h = rw (tasks-read (size TS) (l .tasks) h)
 
@@ -82,7 +82,7 @@ module _ (bytes : List ℕ) where
   unfolding set-read
   set-slots-many n few = simp (length-append, length-replicate, tasks-length) (omega arith)
 
-  pub set-tasks-are : (n : ℕ) → tasks-offset n ≤ length bytes → take n (set-read n bytes .tasks) ≡ map to-task (read TK n (drop (size TS) bytes))
+  pub set-tasks-are : (n : ℕ) → head-length-of n ≤ length bytes → take n (set-read n bytes .tasks) ≡ map to-task (read TK n (drop (size TS) bytes))
   unfolding set-read
   set-tasks-are n h =
       take-at (tasks-at bytes (size TS) n) (replicate (limits .tasks - n) zero-task) n (tasks-length (size TS) n) ∙ tasks-read (size TS) n h

@@ -31,10 +31,6 @@ found-inside [] k d h = absurd (omega arith)
 found-inside (x ∷ xs) zero d h = refl
 found-inside (x ∷ xs) (suc k) d h = found-inside xs k d (omega arith)
 
--- a whole record, where the place of its mark in the table is told
-pub whole-as : (bytes : List ℕ) (s : Place) (k j : ℕ) → k ≡ j → Whole bytes s k → Whole bytes s j
-whole-as bytes s k j e w = rw (← e) w
-
 -- the two bytes at a place are those of the table's mark k, which may stand there
 pub record MarkedAt (kind : ℕ) (bytes : List ℕ) (s : Place) (k : ℕ) : Type 0 where
   pub two : 2 ≤ length bytes - s .offset
@@ -82,14 +78,14 @@ module _ (kind : ℕ) (bytes : List ℕ) (s : Place) where
         refl,
       )
 
-      module _ (w : Whole bytes s k) where
+      module _ (w : Whole bytes s (mark-of k)) where
         front : turns.WholeAllowed kind s rest (mark-of k)
         front = record { marked = marked; not-cut = omega (arith, length-drop (s .offset) bytes) }
 
         its-turn : may-follow (s .rank) (row (mark-of k) .rank) ≡ true
         its-turn = both-true (kind-at kind k) (may-follow (s .rank) (row (mark-of k) .rank)) (m .may) .1
 
-        behind-mark : (r : Step) → Follows kind bytes s k r → Steps kind bytes s r
+        pub behind-mark : (r : Step) → Follows kind bytes s (mark-of k) r → Steps kind bytes s r
         unfolding Follows Steps
         behind-mark (GoesOn t) e =
             let behind = turns.by-after kind s (mark-of k) (values (mark-of k) rest) (sym e) in
@@ -107,9 +103,6 @@ module _ (kind : ℕ) (bytes : List ℕ) (s : Place) where
           turns.frame-stops kind s rest (mark-of k) (refuses r) front (sym e),
           refused-place (turns.by-after kind s (mark-of k) (values (mark-of k) rest) (sym e)),
         )
-
-        pub stepped : (j : ℕ) → k ≡ j → (r : Step) → Follows kind bytes s j r → Steps kind bytes s r
-        stepped j e r f = behind-mark r (rw e f)
 
 -- a turn of framing: what has come so far, with what one record comes to
 module _ (kind : ℕ) (bytes : List ℕ) (s : Place) (r : Step) (steps : Steps kind bytes s r) where

@@ -14,7 +14,7 @@ use Rattle.rules.specs.declared.Refusal.{Refusal}
 use Rattle.rules.specs.Refusals.{unless}
 use Rattle.rules.specs.Tasks.{few-enough}
 use Rattle.rules.specs.Priority.{slot}
-use Rattle.rules.specs.Marks.{Mark, TS, TK, SL, ID, PV, row, size, values}
+use Rattle.rules.specs.Marks.{Mark, TS, TK, row, size, head-length-of, values}
 use Rattle.rules.specs.Framing.{may-follow, head-fault, tasks-due, goes-on, frame}
 use Rattle.rules.proofs.Cases.{by-nat, both-true, first-none, unless-none}
 use Rattle.rules.proofs.Marked.{due-turn, later-turn}
@@ -24,8 +24,7 @@ use Rattle.framing.specs.declared.Step.the-variants as step-case
 use Rattle.framing.specs.declared.FrameAnswer.the-variants as frame-case
 use Rattle.framing.specs.declared.TasksAnswer.{TasksAnswer}
 use Rattle.framing.specs.declared.TasksAnswer.the-variants.{Framed, Refused}
-use Rattle.framing.specs.Frames.{Placed, Steps, Reached, TowardsTasks, ReachedLists, TasksFramed, frame-answer}
-use Rattle.framing.specs.SetRead.{tasks-offset}
+use Rattle.framing.specs.Frames.{Placed, Steps, Reached, TowardsTasks, BehindTasks, TasksFramed, frame-answer}
 use Rattle.framing.proofs.StepLaws.{goes-further, refused-frame}
 
 -- a TS that passes its tests counts 1 to 16 tasks
@@ -58,7 +57,7 @@ towards-at-start bytes = record {
 
 -- where so many TK records are due
 pub towards-due : (bytes : List ℕ) (index offset due n : ℕ) → n ≡ getD bytes 4 0 → 1 ≤ n → n ≤ 16 → index + due ≡ suc n →
-    offset + due * size TK ≡ tasks-offset n → TowardsTasks bytes (tasks-due index offset due n)
+    offset + due * size TK ≡ head-length-of n → TowardsTasks bytes (tasks-due index offset due n)
 towards-due bytes index offset zero n e some few counted ends = record {
   first = λ r. absurd (omega arith);
   low = omega arith;
@@ -93,12 +92,8 @@ towards-after {s = s} bytes p w low inside read turn turns.past-task =
     let c = w .counted (omega arith) in
     let some-due = p .tasks-due is-due in
     towards-due bytes (suc (s .index)) (s .offset + size TK) (s .due - 1) (s .tasks) (a .0) (a .1) (a .2) (omega arith) (omega arith)
-towards-after {s = s} bytes p w low inside read turn turns.past-entry =
-    absurd (omega (arith, later-turn (s .rank) (row SL .rank) (omega arith) turn .0))
-towards-after {s = s} bytes p w low inside read turn turns.past-idle =
-    absurd (omega (arith, later-turn (s .rank) (row ID .rank) (omega arith) turn .0))
-towards-after {s = s} bytes p w low inside read turn turns.past-inversion =
-    absurd (omega (arith, later-turn (s .rank) (row PV .rank) (omega arith) turn .0))
+towards-after {s = s} {m = m} bytes p w low inside read turn (turns.past-later l e c) =
+    absurd (omega (arith, later-turn (s .rank) (row m .rank) l turn .0))
 
 -- a turn of framing TS and the tasks, with what one record comes to
 module _ (kind : ℕ) (bytes : List ℕ) (s : Place) (re : Reached kind bytes s) (w : TowardsTasks bytes s) where
@@ -149,10 +144,10 @@ module _ (kind : ℕ) (bytes : List ℕ) (s : Place) (re : Reached kind bytes s)
 
 -- what an answer for the tasks says of the image
 module _ (kind : ℕ) (bytes : List ℕ) (a : TasksAnswer) (framed : TasksFramed kind bytes a) where
-  -- framing comes to the place that is answered, where the later records may stand
-  pub tasks-reached : (s : Place) → a ≡ Framed s → ReachedLists kind bytes s
+  -- framing comes to the place that is answered, which is the one behind the tasks
+  pub tasks-reached : (s : Place) → a ≡ Framed s → Reached kind bytes s × BehindTasks bytes s
   unfolding TasksFramed
-  tasks-reached s e = let f = rw e at framed in record { reached = f .0; behind-tasks = omega (arith, f .1 .rank); a-rank = omega (arith, f .1 .rank) }
+  tasks-reached s e = rw e at framed
 
   -- and has the refusal that is answered
   pub tasks-refused : (r : Refusal) → a ≡ Refused r → frame-case.Refused r ≡ frame-answer (frame kind bytes)

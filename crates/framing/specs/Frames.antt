@@ -2,22 +2,21 @@
 use mathlib.Core.Path.{_≡_}
 use mathlib.Core.Bool.{true}
 use mathlib.Core.List.{List}
-use Prim.Native.Nat.{ℕ, suc, _+_, _*_, _≤_, _<_}
+use Prim.Native.Nat.{ℕ, zero, suc, _+_, _*_, _≤_, _<_}
 use lib.ListN.{length, getD, drop}
 use Rattle.rules.specs.declared.Place.{Place}
 use Rattle.rules.specs.declared.Layout.{Layout}
 use Rattle.rules.specs.Refusals.{Judged, gives, refuses}
 use Rattle.rules.specs.Tasks.{limits}
-use Rattle.rules.specs.Marks.{Mark, TK, row, size, values}
-use Rattle.rules.specs.Framing.{Next, goes-on, ends, may-follow, after, start-place, frame-records, index-of-end, frame}
-use Rattle.images.specs.Table.{mark-of, stands-at}
+use Rattle.rules.specs.Marks.{Mark, TK, row, size, head-count-of, head-length-of, values}
+use Rattle.rules.specs.Framing.{Next, goes-on, ends, may-follow, least-behind, after, start-place, frame-records, index-of-end, frame}
+use Rattle.images.specs.Table.{stands-at}
 use Rattle.framing.specs.declared.Step.{Step}
 use Rattle.framing.specs.declared.Step.the-variants as step-case
 use Rattle.framing.specs.declared.FrameAnswer.{FrameAnswer}
 use Rattle.framing.specs.declared.FrameAnswer.the-variants as frame-case
 use Rattle.framing.specs.declared.TasksAnswer.{TasksAnswer}
 use Rattle.framing.specs.declared.TasksAnswer.the-variants as tasks-case
-use Rattle.framing.specs.SetRead.{tasks-offset}
 
 -- a place in an image: inside it, and no more records before it than bytes; what is counted adds up to its index, in three stages: before TS, where TK
 -- records are due, and behind them
@@ -27,12 +26,12 @@ pub record Placed (bytes : List ℕ) (s : Place) : Type 0 where
   pub few-listed : s .listed + s .inversions ≤ s .index
   pub before-head : s .rank ≡ 0 → s .index ≡ 0
   pub tasks-due : s .rank ≡ 1 → (1 ≤ s .due) × (s .index + s .due ≡ suc (s .tasks))
-  pub behind-tasks : 2 ≤ s .rank → s .index ≡ suc (s .tasks + (s .listed + s .inversions))
+  pub behind-tasks : 2 ≤ s .rank → s .index ≡ head-count-of (s .tasks) + (s .listed + s .inversions)
 
--- a whole record of the table's mark k at the place
-pub record Whole (bytes : List ℕ) (s : Place) (k : ℕ) : Type 0 where
+-- a whole record of a mark at the place
+pub record Whole (bytes : List ℕ) (s : Place) (m : Mark) : Type 0 where
   pub placed : Placed bytes s
-  pub not-cut : s .offset + size (mark-of k) ≤ length bytes
+  pub not-cut : s .offset + size m ≤ length bytes
 
 -- what framing does behind a record
 abbrev pub next-in : Step → Next
@@ -40,8 +39,26 @@ next-in (step-case.GoesOn t) = goes-on t
 next-in (step-case.Ended l) = ends (gives l)
 next-in (step-case.Refused r) = ends (refuses r)
 
-unfoldable pub Follows : ℕ → List ℕ → Place → ℕ → Step → Type 0
-Follows kind bytes s k r = next-in r ≡ after kind s (mark-of k) (values (mark-of k) (drop (s .offset) bytes))
+unfoldable pub Follows : ℕ → List ℕ → Place → Mark → Step → Type 0
+Follows kind bytes s m r = next-in r ≡ after kind s m (values m (drop (s .offset) bytes))
+
+-- the place behind so many records with one mark, with what is counted then
+unfoldable pub behind-run : Mark → Place → ℕ → ℕ → ℕ → Place
+behind-run m s zero listed inversions = s
+behind-run m s (suc j) listed inversions = record {
+  index = s .index + suc j;
+  offset = s .offset + suc j * size m;
+  rank = least-behind (row m);
+  due = s .due;
+  tasks = s .tasks;
+  listed = listed;
+  inversions = inversions;
+}
+
+-- its index and its offset are numbers of the machine
+pub record Room (s : Place) (m : Mark) (many : ℕ) : Type 0 where
+  pub index : s .index + many < 18446744073709551616
+  pub offset : s .offset + many * size m < 18446744073709551616
 
 -- a record in its turn, which framing passes from one place to the next
 pub record Passes (kind : ℕ) (bytes : List ℕ) (s t : Place) : Type 0 where
@@ -76,19 +93,13 @@ pub record TowardsTasks (bytes : List ℕ) (s : Place) : Type 0 where
   pub none-due : 2 ≤ s .rank → s .due ≡ 0
   pub nothing-listed : (s .listed ≡ 0) × (s .inversions ≡ 0)
   pub announced : 1 ≤ s .rank → (s .tasks ≡ getD bytes 4 0) × (1 ≤ s .tasks) × (s .tasks ≤ 16)
-  pub counted : 1 ≤ s .rank → (s .index + s .due ≡ suc (s .tasks)) × (s .offset + s .due * size TK ≡ tasks-offset (s .tasks))
+  pub counted : 1 ≤ s .rank → (s .index + s .due ≡ suc (s .tasks)) × (s .offset + s .due * size TK ≡ head-length-of (s .tasks))
 
 -- a place that framing comes to, on the way to the one behind the tasks, and not before the place that it was at
 pub record TasksPassed (kind : ℕ) (bytes : List ℕ) (s t : Place) : Type 0 where
   pub reached : Reached kind bytes t
   pub towards : TowardsTasks bytes t
   pub onwards : s .offset ≤ t .offset
-
--- a place that framing comes to, behind the tasks
-pub record ReachedLists (kind : ℕ) (bytes : List ℕ) (s : Place) : Type 0 where
-  pub reached : Reached kind bytes s
-  pub behind-tasks : 2 ≤ s .rank
-  pub a-rank : s .rank ≤ 6
 
 -- the place behind TS and the tasks that it announces
 pub record BehindTasks (bytes : List ℕ) (s : Place) : Type 0 where
@@ -99,8 +110,8 @@ pub record BehindTasks (bytes : List ℕ) (s : Place) : Type 0 where
   pub tasks : s .tasks ≡ getD bytes 4 0
   pub some : 1 ≤ s .tasks
   pub few : s .tasks ≤ limits .tasks
-  pub index : s .index ≡ suc (s .tasks)
-  pub offset : s .offset ≡ tasks-offset (s .tasks)
+  pub index : s .index ≡ head-count-of (s .tasks)
+  pub offset : s .offset ≡ head-length-of (s .tasks)
 
 -- framing of TS and the tasks comes to the place behind them, or the image is refused at one of these records
 unfoldable pub TasksFramed : ℕ → List ℕ → TasksAnswer → Type 0

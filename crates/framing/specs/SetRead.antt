@@ -1,6 +1,6 @@
 -- The set of an image whose tasks are framed: its TK records stand one after the other behind TS. Assumes nothing.
 use mathlib.Core.List.{List, [], _∷_, _++_}
-use Prim.Native.Nat.{ℕ, zero, suc, _+_, _-_, _*_}
+use Prim.Native.Nat.{ℕ, zero, suc, _+_, _-_}
 use lib.ListN.{replicate}
 use Rattle.rules.specs.declared.Task.{Task}
 use Rattle.rules.specs.declared.TaskSet.{TaskSet}
@@ -8,10 +8,6 @@ use Rattle.rules.specs.Tasks.{limits}
 use Rattle.rules.specs.Marks.{TS, TK, size, body-length}
 use Rattle.rules.specs.Dispatcher.{zero-task}
 use Rattle.images.specs.Bodies.{part-of, task-of}
-
--- the byte behind TS and n TK records
-abbrev pub tasks-offset : ℕ → ℕ
-tasks-offset n = size TS + n * size TK
 
 -- so many tasks read from TK records that stand one after the other
 unfoldable pub tasks-at : List ℕ → ℕ → ℕ → List Task

@@ -1,16 +1,20 @@
 // Framing: record by record, left from inside with the first refusal; and the set of an image whose tasks are framed.
+use images::Class;
 use images::EN;
+use images::END_SIZE;
+use images::HEAD_SIZE;
 use images::ID;
 use images::PV;
-use images::SL;
+use images::ROWS;
+use images::TASK_SIZE;
 use images::TK;
 use images::TS;
-use images::body_of;
 use images::end_body;
 use images::head_body;
 use images::mark;
 use images::part;
 use images::row_of;
+use images::size_of;
 use images::task_body;
 use rules::Layout;
 use rules::Place;
@@ -21,12 +25,20 @@ ghost use mathlib.Core.Path.{_≡_};
 ghost use Prim.Native.Nat.{_<_, _≤_};
 ghost use lib.ListN.{length};
 ghost use Rattle.rules.specs.Refusals.{refusal};
+ghost use Rattle.rules.specs.Marks as book-marks;
 ghost use Rattle.rules.specs.Framing.{frame as frame-of};
 ghost use Rattle.images.specs.Table.{mark-of};
 ghost use Rattle.framing.specs.Allowed.{kind-at, allowed-at};
-ghost use Rattle.framing.specs.Frames.{Placed, Whole, Follows, Steps, Reached, RunOf, TowardsTasks, TasksPassed, ReachedLists, TasksFramed};
+ghost use Rattle.framing.specs.Frames.{Placed, Whole, Follows, Steps, Room, behind-run, Reached, RunOf, TowardsTasks, TasksPassed, TasksFramed};
 ghost use Rattle.framing.specs.Frames.{frame-answer};
-ghost use Rattle.framing.specs.SetRead.{tasks-offset, set-read};
+ghost use Rattle.framing.specs.SetRead.{set-read};
+
+// The bytes of a body of TS, TK and EN.
+const HEAD_BODY: usize = ROWS[TS].body;
+
+const TASK_BODY: usize = ROWS[TK].body;
+
+const END_BODY: usize = ROWS[EN].body;
 
 // Does an image of a kind have a mark?
 fn in_kind(kind: u32, k: usize) -> bool
@@ -70,11 +82,10 @@ fn refuses(number: u32, place: usize) -> Step
 
 // TS: 3, 4 and 5, then n tasks are due.
 fn after_head(image: &[u8], kind: u32, s: Place) -> Step
-    requires { ⌜ Whole (now image) s 0 ⌝ }
-    ensures { λ r. ⌜ Follows kind (now (image .entry)) s 0 r ⌝ }
+    requires { ⌜ Whole (now image) s book-marks.TS ⌝ }
+    ensures { λ r. ⌜ Follows kind (now (image .entry)) s book-marks.TS r ⌝ }
 {
-    let len = body_of(TS);
-    let h = head_body(part(image, s.offset + 2, len));
+    let h = head_body(part(image, s.offset + 2, HEAD_BODY));
     if h.edition != 1 {
         return refuses(3, s.index);
     }
@@ -90,7 +101,7 @@ fn after_head(image: &[u8], kind: u32, s: Place) -> Step
     let n = h.n as usize;
     Step::GoesOn(Place {
         index: s.index + 1,
-        offset: s.offset + (len + 2),
+        offset: s.offset + HEAD_SIZE,
         rank: 1,
         due: n,
         tasks: n,
@@ -101,10 +112,9 @@ fn after_head(image: &[u8], kind: u32, s: Place) -> Step
 
 // A TK: one task fewer is due.
 fn after_task(image: &[u8], kind: u32, s: Place) -> Step
-    requires { ⌜ Whole (now image) s 1 ⌝ }
-    ensures { λ r. ⌜ Follows kind (now (image .entry)) s 1 r ⌝ }
+    requires { ⌜ Whole (now image) s book-marks.TK ⌝ }
+    ensures { λ r. ⌜ Follows kind (now (image .entry)) s book-marks.TK r ⌝ }
 {
-    let len = body_of(TK);
     let mut due: usize = 0;
     let mut rank: usize = 2;
     if 1 < s.due {
@@ -113,7 +123,7 @@ fn after_task(image: &[u8], kind: u32, s: Place) -> Step
     }
     Step::GoesOn(Place {
         index: s.index + 1,
-        offset: s.offset + (len + 2),
+        offset: s.offset + TASK_SIZE,
         rank,
         due,
         tasks: s.tasks,
@@ -122,49 +132,36 @@ fn after_task(image: &[u8], kind: u32, s: Place) -> Step
     })
 }
 
-// An SL or an ID: one more is listed.
-fn after_listed(image: &[u8], kind: u32, s: Place, k: usize) -> Step
-    requires past_task { ⌜ 2 ≤ k ⌝ }
-    requires before_end { ⌜ k < 4 ⌝ }
-    requires whole { ⌜ Whole (now image) s k ⌝ }
-    ensures { λ r. ⌜ Follows kind (now (image .entry)) s k r ⌝ }
+// Past so many records with one mark between the tasks and EN, with what is counted then.
+fn past(s: Place, k: usize, count: usize, listed: usize, inversions: usize) -> Place
+    requires { ⌜ Room s (mark-of k) count ⌝ }
+    ensures { λ r. ⌜ r ≡ behind-run (mark-of k) s count listed inversions ⌝ }
 {
+    if count < 1 {
+        return s;
+    }
     let row = row_of(k);
-    Step::GoesOn(Place {
-        index: s.index + 1,
-        offset: s.offset + (row.body + 2),
-        rank: row.rank,
+    let mut rank = row.rank;
+    if row.once {
+        rank += 1;
+    }
+    Place {
+        index: s.index + count,
+        offset: s.offset + count * row.size,
+        rank,
         due: s.due,
         tasks: s.tasks,
-        listed: s.listed + 1,
-        inversions: s.inversions,
-    })
-}
-
-// A PV: one more inversion.
-fn after_inversion(image: &[u8], kind: u32, s: Place) -> Step
-    requires { ⌜ Whole (now image) s 4 ⌝ }
-    ensures { λ r. ⌜ Follows kind (now (image .entry)) s 4 r ⌝ }
-{
-    let row = row_of(PV);
-    Step::GoesOn(Place {
-        index: s.index + 1,
-        offset: s.offset + (row.body + 2),
-        rank: row.rank,
-        due: s.due,
-        tasks: s.tasks,
-        listed: s.listed,
-        inversions: s.inversions + 1,
-    })
+        listed,
+        inversions,
+    }
 }
 
 // EN: 10 where its number is not that of the records before it.
 fn after_end(image: &[u8], kind: u32, s: Place) -> Step
-    requires { ⌜ Whole (now image) s 5 ⌝ }
-    ensures { λ r. ⌜ Follows kind (now (image .entry)) s 5 r ⌝ }
+    requires { ⌜ Whole (now image) s book-marks.EN ⌝ }
+    ensures { λ r. ⌜ Follows kind (now (image .entry)) s book-marks.EN r ⌝ }
 {
-    let len = body_of(EN);
-    let number = end_body(part(image, s.offset + 2, len)) as usize;
+    let number = end_body(part(image, s.offset + 2, END_BODY)) as usize;
     if number != s.index {
         return refuses(10, s.index);
     }
@@ -172,8 +169,25 @@ fn after_end(image: &[u8], kind: u32, s: Place) -> Step
         tasks: s.tasks,
         listed: s.listed,
         inversions: s.inversions,
-        ended: s.offset + (len + 2),
+        ended: s.offset + END_SIZE,
     })
+}
+
+// A whole record, by the class of its mark.
+fn after(image: &[u8], kind: u32, s: Place, k: usize) -> Step
+    requires { ⌜ Whole (now image) s (mark-of k) ⌝ }
+    ensures { λ r. ⌜ Follows kind (now (image .entry)) s (mark-of k) r ⌝ }
+{
+    let row = row_of(k);
+    let class = row.class;
+    match class {
+        Class::Head => after_head(image, kind, s),
+        Class::Task => after_task(image, kind, s),
+        Class::Option => Step::GoesOn(past(s, k, 1, s.listed, s.inversions)),
+        Class::Listed => Step::GoesOn(past(s, k, 1, s.listed + 1, s.inversions)),
+        Class::Inversion => Step::GoesOn(past(s, k, 1, s.listed, s.inversions + 1)),
+        Class::End => after_end(image, kind, s),
+    }
 }
 
 // One record: fewer than two bytes left, mark, cut body, then the record's own tests.
@@ -193,16 +207,10 @@ fn step_at(image: &[u8], kind: u32, s: Place) -> Step
     if !allowed(kind, s.rank, k) {
         return refuses(2, s.index);
     }
-    if left - 2 < body_of(k) {
+    if left < size_of(k) {
         return refuses(1, s.index);
     }
-    match k {
-        0 => after_head(image, kind, s),
-        1 => after_task(image, kind, s),
-        2 | 3 => after_listed(image, kind, s, k),
-        4 => after_inversion(image, kind, s),
-        _ => after_end(image, kind, s),
-    }
+    after(image, kind, s, k)
 }
 
 pub enum FrameAnswer {
@@ -215,7 +223,7 @@ fn run(image: &[u8], from: usize, k: usize, most: usize) -> usize
     requires { ⌜ from ≤ length (now image) ⌝ }
     ensures { λ r. ⌜ RunOf (now (image .entry)) from (mark-of k) most r ⌝ }
 {
-    let size = body_of(k) + 2;
+    let size = size_of(k);
     let mut at = from;
     let mut count: usize = 0;
     'records: loop {
@@ -246,61 +254,12 @@ fn past_tasks(image: &[u8], kind: u32, s: Place) -> Place
     }
     Place {
         index: s.index + count,
-        offset: s.offset + count * (body_of(TK) + 2),
+        offset: s.offset + count * TASK_SIZE,
         rank,
         due: s.due - count,
         tasks: s.tasks,
         listed: s.listed,
         inversions: s.inversions,
-    }
-}
-
-// Past the SL or ID records that stand here, by the kind of image.
-fn past_listed(image: &[u8], kind: u32, s: Place) -> Place
-    requires { ⌜ ReachedLists kind (now image) s ⌝ }
-    ensures { λ r. ⌜ ReachedLists kind (now (image .entry)) r ⌝ }
-{
-    let mut k = ID;
-    if kind == 1 {
-        k = SL;
-    }
-    let row = row_of(k);
-    let count = run(image, s.offset, k, image.len());
-    if count < 1 {
-        return s;
-    }
-    Place {
-        index: s.index + count,
-        offset: s.offset + count * (row.body + 2),
-        rank: row.rank,
-        due: s.due,
-        tasks: s.tasks,
-        listed: s.listed + count,
-        inversions: s.inversions,
-    }
-}
-
-// Past the PV records that stand here in a table image.
-fn past_inversions(image: &[u8], kind: u32, s: Place) -> Place
-    requires { ⌜ ReachedLists kind (now image) s ⌝ }
-    ensures { λ r. ⌜ Reached kind (now (image .entry)) r ⌝ }
-{
-    if kind == 1 {
-        return s;
-    }
-    let row = row_of(PV);
-    let count = run(image, s.offset, PV, image.len());
-    if count < 1 {
-        return s;
-    }
-    Place {
-        index: s.index + count,
-        offset: s.offset + count * (row.body + 2),
-        rank: row.rank,
-        due: s.due,
-        tasks: s.tasks,
-        listed: s.listed,
-        inversions: s.inversions + count,
     }
 }
 
@@ -371,15 +330,21 @@ pub fn frame_from(image: &[u8], kind: u32, place: Place) -> FrameAnswer
     }
 }
 
-// Framing of a whole image.
-pub fn frame(image: &[u8], kind: u32) -> FrameAnswer
-    ensures { λ r. ⌜ r ≡ frame-answer (frame-of kind (now (image .entry))) ⌝ }
+// Framing of a whole image of tables: its runs of ID and PV records at once.
+pub fn frame(image: &[u8]) -> FrameAnswer
+    ensures { λ r. ⌜ r ≡ frame-answer (frame-of 2 (now (image .entry))) ⌝ }
 {
-    match frame_tasks(image, kind) {
+    match frame_tasks(image, 2) {
         TasksAnswer::Refused(r) => FrameAnswer::Refused(r),
         TasksAnswer::Framed(s) => {
-            let behind = past_listed(image, kind, s);
-            frame_from(image, kind, past_inversions(image, kind, behind))
+            let idles = run(image, s.offset, ID, image.len());
+            let t = past(s, ID, idles, s.listed + idles, s.inversions);
+            let inversions = run(image, t.offset, PV, image.len());
+            frame_from(
+                image,
+                2,
+                past(t, PV, inversions, t.listed, t.inversions + inversions),
+            )
         }
     }
 }
@@ -387,7 +352,7 @@ pub fn frame(image: &[u8], kind: u32) -> FrameAnswer
 // The set of an image whose tasks are framed: its n tasks in the first n slots, the others zero.
 pub fn read_set(image: &[u8], n: usize) -> TaskSet
     requires few { ⌜ n ≤ 16 ⌝ }
-    requires inside { ⌜ tasks-offset n ≤ length (now image) ⌝ }
+    requires inside { ⌜ book-marks.head-length-of n ≤ length (now image) ⌝ }
     ensures { λ r. ⌜ r ≡ set-read n (now (image .entry)) ⌝ }
 {
     let mut tasks = [Task {
@@ -396,12 +361,11 @@ pub fn read_set(image: &[u8], n: usize) -> TaskSet
         period: 0,
         deadline: 0,
     }; 16];
-    let len = body_of(TK);
-    let mut at = body_of(TS) + 2;
+    let mut at = HEAD_SIZE;
     let mut i: usize = 0;
     while i < n {
-        tasks[i] = task_body(part(image, at + 2, len));
-        at += len + 2;
+        tasks[i] = task_body(part(image, at + 2, TASK_BODY));
+        at += TASK_SIZE;
         i += 1;
     }
     TaskSet { n: n as u32, tasks }

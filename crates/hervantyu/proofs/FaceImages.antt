@@ -7,12 +7,12 @@ use native.Mathlib.Omega.{arith}
 use lib.ListN.{length, take, drop}
 use lib.Seq.{take-at}
 use Rattle.fields.specs.Number.{Bytes}
-use Rattle.rules.specs.declared.Task.{Task}
 use Rattle.rules.specs.declared.Entry.{Entry}
 use Rattle.rules.specs.declared.Refusal.{Refusal}
 use Rattle.rules.specs.declared.CheckAnswer.the-variants as check-case
 use Rattle.rules.specs.declared.MakeAnswer.{MakeAnswer}
 use Rattle.rules.specs.declared.MakeAnswer.the-variants.{Made, Refused}
+use Rattle.rules.specs.Tasks.{Set}
 use Rattle.rules.specs.Refusals.{gives, refusal}
 use Rattle.rules.specs.Operations.{Timed, read-timetable, check-answer, check-timetable, check-tables, derive, rebuild}
 use Rattle.rules.specs.Promised.{TableImage, BothImages}
@@ -245,16 +245,16 @@ back-and-there image old {l = l} {out = out} b rebuilt other derived room =
     derive-fits (take l out) other derived (rebuilt-both image old b rebuilt) room
 
 -- where `hv_rebuild` returned 0, what it wrote is read as a set and a timetable exactly where these are the ones behind the image
-pub reads-exactly : (image old : List ℕ) {old-length p l : ℕ} {out : List ℕ} → Bytes image → Rebuilt image old old-length 0 p l out → (ts : List Task)
-    (τ : List Entry) → (read-timetable (take l out) ≡ gives (record { tasks = ts; entries = τ })) ↔ TableImage image ts τ
+pub reads-exactly : (image old : List ℕ) {old-length p l : ℕ} {out : List ℕ} → Bytes image → Rebuilt image old old-length 0 p l out → (ts : Set)
+    (τ : List Entry) → (read-timetable (take l out) ≡ gives (record { set = ts; entries = τ })) ↔ TableImage image ts τ
 reads-exactly image old {l = l} {out = out} b rebuilt ts τ =
     let both = rebuilt-both image old b rebuilt in
-    let ours : Timed = record { tasks = both .tasks; entries = both .entries } in
-    let theirs : Timed = record { tasks = ts; entries = τ } in
+    let ours : Timed = record { set = both .set; entries = both .entries } in
+    let theirs : Timed = record { set = ts; entries = τ } in
     let read : read-timetable (take l out) ≡ gives ours = ap read-timetable (both .timetable .is) ∙ book.rebuilt-reads (both .tables) in (
       λ e. let same : ours ≡ theirs = gives-in ours theirs (sym read ∙ e) in
-          let tasks : both .tasks ≡ ts = ap (λ (i : Timed). i .tasks) same in
+          let sets : both .set ≡ ts = ap (λ (i : Timed). i .set) same in
           let entries : both .entries ≡ τ = ap (λ (i : Timed). i .entries) same in
-          rw (tasks, entries) at (both .tables),
+          rw (sets, entries) at (both .tables),
       λ t. let one = book.only-one-timetable (both .tables) t in rw (one .0, one .1) at read,
     )

@@ -9,7 +9,6 @@ use Prim.Native.Nat.{ℕ, suc, _+_, _*_, _/_, _%_, _≤_, _<_}
 use native.Mathlib.Omega.{arith}
 use lib.ListN.{length, take, drop, replicate}
 use Rattle.fields.specs.Number.{Bytes}
-use Rattle.rules.specs.declared.Task.{Task}
 use Rattle.rules.specs.declared.Entry.{Entry}
 use Rattle.rules.specs.declared.Figures.{Figures}
 use Rattle.rules.specs.declared.Refusal.{Refusal}
@@ -17,7 +16,7 @@ use Rattle.rules.specs.declared.CheckAnswer.{CheckAnswer}
 use Rattle.rules.specs.declared.MakeAnswer.{MakeAnswer}
 use Rattle.rules.specs.declared.Turn.{Turn}
 use Rattle.rules.specs.Refusals.{gives, refusal, First, Told}
-use Rattle.rules.specs.Tasks.{task, release, due, all-jobs, hyperperiod, memory-tests, judge-set}
+use Rattle.rules.specs.Tasks.{Set, task, release, due, all-jobs, hyperperiod, memory-tests, judge-set}
 use Rattle.rules.specs.Timetable.{entry-at, job-at}
 use Rattle.rules.specs.Priority.{slot}
 use Rattle.rules.specs.Operations.{read-timetable}
@@ -134,7 +133,7 @@ module _ {n : ℕ} {numbers : List ℕ} {old-hyperperiod old-jobs r p h j : ℕ}
 
 module _ (image : List ℕ) {r p : ℕ} (checked : TimetableChecked image r p) where
   -- returns 0 exactly where the bytes are the image of a good set and a valid timetable
-  pub timetable-accepted-exactly : Bytes image → (r ≡ 0) ↔ ((ts : List Task) × (τ : List Entry) × TimetableImage image ts τ)
+  pub timetable-accepted-exactly : Bytes image → (r ≡ 0) ↔ ((ts : Set) × (τ : List Entry) × TimetableImage image ts τ)
   timetable-accepted-exactly b = Iff·trans (zero-exactly (face-images.returned-timetable image checked)) (book.accepted-timetables image b)
 
   -- with 0 the place is 0
@@ -153,7 +152,7 @@ module _ (image : List ℕ) {r p : ℕ} (checked : TimetableChecked image r p) w
 
 module _ (image : List ℕ) {r p : ℕ} (checked : TablesChecked image r p) where
   -- returns 0 exactly where some valid timetable of a good set has those tables
-  pub tables-accepted-exactly : Bytes image → (r ≡ 0) ↔ ((ts : List Task) × (τ : List Entry) × TableImage image ts τ)
+  pub tables-accepted-exactly : Bytes image → (r ≡ 0) ↔ ((ts : Set) × (τ : List Entry) × TableImage image ts τ)
   tables-accepted-exactly b = Iff·trans (zero-exactly (face-images.returned-tables image checked)) (book.accepted-tables image b)
 
   -- with 0 the place is 0
@@ -169,7 +168,7 @@ module _ (image : List ℕ) {r p : ℕ} (checked : TablesChecked image r p) wher
   tables-returns = face-images.tables-numbers image checked
 
 -- that set and that timetable are the only ones
-pub only-one-timetable : {image : List ℕ} {ts us : List Task} {τ σ : List Entry} → TableImage image ts τ → TableImage image us σ → (ts ≡ us) × (τ ≡ σ)
+pub only-one-timetable : {image : List ℕ} {ts us : Set} {τ σ : List Entry} → TableImage image ts τ → TableImage image us σ → (ts ≡ us) × (τ ≡ σ)
 only-one-timetable = book.only-one-timetable
 
 -- DEMANDS 1 AND 2, hv_derive
@@ -252,7 +251,7 @@ module _ {image old-start : List ℕ} {r p : ℕ} {start state : List ℕ} (begu
   begin-returns-as-checking = face-turns.begin-checks begun
 
   -- so it returns 0 exactly where some valid timetable of a good set has those tables
-  pub begin-accepted-exactly : Bytes image → (r ≡ 0) ↔ ((ts : List Task) × (τ : List Entry) × TableImage image ts τ)
+  pub begin-accepted-exactly : Bytes image → (r ≡ 0) ↔ ((ts : Set) × (τ : List Entry) × TableImage image ts τ)
   begin-accepted-exactly b = tables-accepted-exactly image (begin-returns-as-checking b) b
 
   -- with 0 the place is 0
@@ -303,12 +302,12 @@ module _ (image old-state : List ℕ) (end : ℕ) {old-start start state : List 
 -- (`rebuild-writes-exactly`): the set and the timetable that are read from what it wrote are the ones behind the image, and there are no others
 
 pub reads-exactly : (image old : List ℕ) {old-length p l : ℕ} {out : List ℕ} → Bytes image → Rebuilt image old old-length 0 p l out →
-    (ts : List Task) (τ : List Entry) → (read-timetable (take l out) ≡ gives (record { tasks = ts; entries = τ })) ↔ TableImage image ts τ
+    (ts : Set) (τ : List Entry) → (read-timetable (take l out) ≡ gives (record { set = ts; entries = τ })) ↔ TableImage image ts τ
 reads-exactly = face-images.reads-exactly
 
 -- DEMAND 3, of every log of `hv_begin` and `hv_go_on` on such an image, with the set and the timetable behind it
 
-module _ (image : List ℕ) (are-bytes : Bytes image) (ts : List Task) (τ : List Entry) (accepted : TableImage image ts τ) where
+module _ (image : List ℕ) (are-bytes : Bytes image) (ts : Set) (τ : List Entry) (accepted : TableImage image ts τ) where
   -- the timetable has as many entries as a cycle has jobs, and at least one
   pub entries-are-jobs : (length τ ≡ all-jobs (hyperperiod ts) ts) × (1 ≤ length τ)
   entries-are-jobs = book.entries-are-jobs image are-bytes ts τ accepted

@@ -6,7 +6,6 @@ use Prim.Native.Nat.{ℕ, zero, suc, _/_, _%_, _<_}
 use native.Mathlib.Omega.{arith}
 use lib.ListN.{length}
 use Rattle.fields.specs.Number.{Bytes}
-use Rattle.rules.specs.declared.Task.{Task}
 use Rattle.rules.specs.declared.Entry.{Entry}
 use Rattle.rules.specs.declared.Start.{Start as StartOf}
 use Rattle.rules.specs.declared.StartAnswer.{StartAnswer}
@@ -14,7 +13,7 @@ use Rattle.rules.specs.declared.StartAnswer.the-variants.{Start}
 use Rattle.rules.specs.declared.Dispatcher.{Dispatcher as State}
 use Rattle.rules.specs.declared.Turn.{Turn}
 use Rattle.rules.specs.Refusals.{refusal, start-tells}
-use Rattle.rules.specs.Tasks.{hyperperiod}
+use Rattle.rules.specs.Tasks.{Set, hyperperiod}
 use Rattle.rules.specs.Priority.{slot}
 use Rattle.rules.specs.Dispatcher.{Shaped, numbers, refused, begin, go-on}
 use Rattle.rules.specs.Calls.{all-starts, start-of}
@@ -38,7 +37,7 @@ told-of : (turn : Turn) (old-start : List ℕ) → Shaped (turn .state) →
 told-of turn old-start shaped =
     record { told = record { its-number = refl; its-start = refl }; its-numbers = refl; its-state = state-of-numbers (turn .state) shaped }
 
-module _ (image : List ℕ) (ts : List Task) where
+module _ (image : List ℕ) (ts : Set) where
   -- the log of the rule book beside a log of calls: its last start is in the start, and its state is what the state's numbers are
   pub record Beside (k : ℕ) (start state : List ℕ) : Type 0 where
     pub s : StartOf
@@ -73,7 +72,7 @@ module _ (image : List ℕ) (ts : List Task) where
           t .its-numbers ∙ ap (λ (turn : Turn). numbers (turn .state)) e ∙ sym (b .its-numbers),
         )
 
-module _ (image : List ℕ) (are-bytes : Bytes image) (ts : List Task) (τ : List Entry) (accepted : TableImage image ts τ) where
+module _ (image : List ℕ) (are-bytes : Bytes image) (ts : Set) (τ : List Entry) (accepted : TableImage image ts τ) where
   -- a turn that ends a log of the rule book returns 0 and tells its start
   told-next : {k number : ℕ} {old-start start state : List ℕ} {turn : Turn} → book-calls.Log image ts k (turn .answer) (turn .state) → k < all-starts τ →
       TurnTold turn old-start number start state → (number ≡ 0) × Beside image ts k start state

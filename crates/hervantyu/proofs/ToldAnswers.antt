@@ -8,11 +8,10 @@ use Rattle.rules.specs.declared.StartAnswer.{StartAnswer}
 use Rattle.rules.specs.declared.CheckAnswer.{CheckAnswer}
 use Rattle.rules.specs.declared.MakeAnswer.{MakeAnswer}
 use Rattle.rules.specs.declared.Turn.{Turn}
-use Rattle.rules.specs.Dispatcher.{numbers}
 use Rattle.rules.specs.Refusals.{Told, tells, tells-refusal}
 use Rattle.rules.specs.Priority.{slot}
 use Rattle.rules.proofs.Cases.{clash}
-use Rattle.numbers.specs.Numbers.{state-from}
+use Rattle.dispatcher.specs.Stored.{TurnStored}
 use Rattle.hervantyu.specs.Lent.{value-if, value-or, CheckTold, MakeTold, StartTold, TurnTold}
 
 -- an answer with values: number and place are 0, and a lent number holds its value
@@ -49,11 +48,11 @@ check-told {number = number} {place = place} e t = subst (λ (a : CheckAnswer). 
 pub make-told : {a b : MakeAnswer} {old number place length : ℕ} → a ≡ b → MakeTold a old number place length → MakeTold b old number place length
 make-told {old = old} {number = number} {place = place} {length = length} e t = subst (λ (a : MakeAnswer). MakeTold a old number place length) e t
 
-pub start-told : {a b : StartAnswer} {old start : List ℕ} {number : ℕ} → a ≡ b → StartTold a old number start → StartTold b old number start
+start-told : {a b : StartAnswer} {old start : List ℕ} {number : ℕ} → a ≡ b → StartTold a old number start → StartTold b old number start
 start-told {old = old} {start = start} {number = number} e t = subst (λ (a : StartAnswer). StartTold a old number start) e t
 
--- what is told of a turn's answer and state is told of a turn that is equal
-pub turn-told : {a b : Turn} {old start state : List ℕ} {number : ℕ} → a ≡ b → StartTold (a .answer) old number start →
-    (state ≡ numbers (a .state)) × (state-from state ≡ a .state) → TurnTold b old number start state
-turn-told {old = old} {start = start} {state = state} {number = number} e told is =
-    subst (λ (t : Turn). TurnTold t old number start state) e (record { told = told; its-numbers = is .0; its-state = is .1 })
+-- a turn that is stored in a state's numbers, and told of its answer
+pub turn-told : {turn : Turn} {answer : StartAnswer} {old start state : List ℕ} {number : ℕ} → TurnStored turn answer state →
+    StartTold answer old number start → TurnTold turn old number start state
+turn-told stored told =
+    record { told = start-told (stored .its-answer) told; its-numbers = stored .its-numbers; its-state = stored .its-state }

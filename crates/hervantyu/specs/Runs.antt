@@ -2,18 +2,17 @@
 -- Assumes nothing.
 use mathlib.Core.List.{List}
 use Prim.Native.Nat.{ℕ, suc, _+_, _≤_, _<_}
-use Rattle.rules.specs.declared.Task.{Task}
-use Rattle.rules.specs.Tasks.{task}
+use Rattle.rules.specs.Tasks.{Set, task}
 use Rattle.rules.specs.Priority.{slot}
 use Rattle.hervantyu.specs.Lent.{Begun, GoneOn}
 
 -- a reported end that lies from a start's absolute time to that time plus C
-abbrev pub Honest : List Task → List ℕ → ℕ → Type 0
+abbrev pub Honest : Set → List ℕ → ℕ → Type 0
 Honest ts start end = (slot start 3 ≤ end) × (end ≤ slot start 3 + task ts (slot start 0) .time)
 
 -- the calls so far, whatever they returned: how many reported an honest end, what the last of these (or `hv_begin`) left in the start, and what the last
 -- call left in the state; a call that reports an end before the running job's start is made again
-pub data Log (image : List ℕ) (ts : List Task) : ℕ → List ℕ → List ℕ → Type 0 where
+pub data Log (image : List ℕ) (ts : Set) : ℕ → List ℕ → List ℕ → Type 0 where
   begun : {old-start start state : List ℕ} {number place : ℕ} → Begun image old-start number place start state → Log image ts 0 start state
   went-on : {start state old-start start′ state′ : List ℕ} {k number : ℕ} → Log image ts k start state → (end : ℕ) → Honest ts start end →
       GoneOn image state end old-start number start′ state′ → Log image ts (suc k) start′ state′

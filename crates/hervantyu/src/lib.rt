@@ -1,5 +1,6 @@
 // The C face: the names of include/hervantyu.h, over the proved crates. Each function returns the refusal's number, 0 where there is none, and stores its
 // place where one is lent; on a refusal nothing else that was lent changes, but for the dispatcher's state.
+use numbers::NUMBERS;
 use rules::CheckAnswer;
 use rules::MakeAnswer;
 use rules::SetAnswer;
@@ -119,23 +120,25 @@ fn place_in(answer: StartAnswer) -> u64
 
 #[no_mangle]
 pub extern "C" fn hv_begin(
-    d: &mut [u32; 119],
+    d: &mut [u32; NUMBERS],
     image: &[u8],
     start: &mut [u64; 4],
     place: &mut u64,
 ) -> u32
     ensures { λ r. ⌜ Begun (now (image .entry)) (now (start .entry)) r (now (place .exit)) (now (start .exit)) (now (d .exit)) ⌝ }
 {
-    let turn = dispatcher::begin(image);
-    let state = turn.state;
-    *d = numbers::numbers_of(state);
-    let answer = turn.answer;
+    let answer = dispatcher::begin_numbers(image, d);
     *place = place_in(answer);
     told_start(answer, start)
 }
 
 #[no_mangle]
-pub extern "C" fn hv_go_on(d: &mut [u32; 119], image: &[u8], end: u64, start: &mut [u64; 4]) -> u32
+pub extern "C" fn hv_go_on(
+    d: &mut [u32; NUMBERS],
+    image: &[u8],
+    end: u64,
+    start: &mut [u64; 4],
+) -> u32
     ensures { λ r. ⌜ GoneOn (now (image .entry)) (now (d .entry)) end (now (start .entry)) r (now (start .exit)) (now (d .exit)) ⌝ }
 {
     let answer = dispatcher::go_on_numbers(image, d, end);

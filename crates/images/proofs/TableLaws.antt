@@ -1,5 +1,5 @@
 -- The code's table of marks is the rule book's, entry by entry, and so is the search in it; and a whole record at a place. Assumes nothing.
-use mathlib.Core.Path.{_≡_, refl, sym}
+use mathlib.Core.Path.{_≡_, refl, sym, _∙_, ap}
 use mathlib.Core.Bool.{true, false}
 use mathlib.Core.List.{List, [], _∷_}
 use Prim.Native.Nat.{ℕ, zero, suc, _+_, _-_, _*_, _≤_, _<_}
@@ -11,11 +11,13 @@ use lib.Dec.{eqb, leb}
 use lib.ListN.{length, getD, getElem?, drop, length-drop}
 use lib.Seq.{getD-drop}
 use Rattle.rules.specs.Tasks.{both}
-use Rattle.rules.specs.Marks.{Mark, TS, TK, SL, ID, PV, EN, row, marks, size, body-length, mark-in}
+use Rattle.rules.specs.Marks.{Mark, TS, TK, SL, ID, PV, EN, Class, head-class, task-class, option-class, listed-class, inversion-class, end-class, row, marks, size, body-length, mark-in}
 use Rattle.rules.proofs.Cases.{by-eq, both-true}
 use Rattle.rules.proofs.Marked.{mark-bytes}
+use Rattle.images.specs.declared.Class.{Class as CodeClass}
+use Rattle.images.specs.declared.Class.the-variants as class-case
 use Rattle.images.specs.declared.Row.{Row}
-use Rattle.images.specs.Table.{mark-of, code-row, found-at, stands-at}
+use Rattle.images.specs.Table.{mark-of, code-class, code-row, found-at, stands-at}
 
 -- a place that is another has the row of that place's mark
 pub same-row : (k i : ℕ) → k ≡ i → code-row (mark-of i) ≡ code-row (mark-of k)
@@ -31,14 +33,43 @@ last-row (suc (suc (suc (suc zero)))) h = absurd (omega arith)
 last-row (suc (suc (suc (suc (suc zero))))) h = refl
 last-row (suc (suc (suc (suc (suc (suc k)))))) h = refl
 
--- no body is longer than a task's
-pub short-body : (m : Mark) → body-length m ≤ 16
-short-body TS = omega arith
-short-body TK = omega arith
-short-body SL = omega arith
-short-body ID = omega arith
-short-body PV = omega arith
-short-body EN = omega arith
+-- a class is told by the code's
+abbrev class-back : CodeClass → Class
+class-back class-case.Head = head-class
+class-back class-case.Task = task-class
+class-back class-case.Option = option-class
+class-back class-case.Listed = listed-class
+class-back class-case.Inversion = inversion-class
+class-back class-case.End = end-class
+
+back-is : (c : Class) → class-back (code-class c) ≡ c
+back-is head-class = refl
+back-is task-class = refl
+back-is option-class = refl
+back-is listed-class = refl
+back-is inversion-class = refl
+back-is end-class = refl
+
+pub class-told : (c d : Class) → code-class c ≡ code-class d → c ≡ d
+class-told c d e = sym (back-is c) ∙ ap class-back e ∙ back-is d
+
+-- no record is longer than a task's
+pub short-size : (m : Mark) → size m ≤ size TK
+short-size TS = omega arith
+short-size TK = omega arith
+short-size SL = omega arith
+short-size ID = omega arith
+short-size PV = omega arith
+short-size EN = omega arith
+
+-- no rank is above EN's
+pub low-rank : (m : Mark) → row m .rank ≤ row EN .rank
+low-rank TS = omega arith
+low-rank TK = omega arith
+low-rank SL = omega arith
+low-rank ID = omega arith
+low-rank PV = omega arith
+low-rank EN = omega arith
 
 -- the search from a place on ends where the mark there has the two bytes
 here : (ms : List Mark) (k a b : ℕ) → k < length ms → row (getD ms k EN) .byte₁ ≡ a → row (getD ms k EN) .byte₂ ≡ b → mark-in (drop k ms) a b ≡ getElem? ms k
@@ -85,16 +116,16 @@ module _ (bytes : List ℕ) (at : ℕ) (m : Mark) where
 
   module _ (r : Row) (read : r ≡ code-row m) where
     -- fewer bytes are left than the record has
-    pub stands-cut : length bytes - at < r .body + 2 → false ≡ stands-at bytes at m
+    pub stands-cut : length bytes - at < r .size → false ≡ stands-at bytes at m
     unfolding stands-at
     stands-cut h =
-        let short : length bytes - at < body-length m + 2 = rw read at h in
+        let short : length bytes - at < size m = rw read at h in
         rw (lt-leb (size m) (length rest) (omega (arith, length-drop at bytes)))
 
-    module _ (h : r .body + 2 ≤ length bytes - at) where
+    module _ (h : r .size ≤ length bytes - at) where
       -- as many are left
       not-cut : leb (size m) (length rest) ≡ true
-      not-cut = let room : body-length m + 2 ≤ length bytes - at = rw read at h in le-leb (size m) (length rest) (omega (arith, length-drop at bytes))
+      not-cut = let room : size m ≤ length bytes - at = rw read at h in le-leb (size m) (length rest) (omega (arith, length-drop at bytes))
 
       -- and the first two, as one number, decide
       pub stands-pair : (p q : ℕ) → p ≡ getD bytes at 0 + getD bytes (at + 1) 0 * 256 → q ≡ r .first + r .second * 256 → getD bytes at 0 < 256 →

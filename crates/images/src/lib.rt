@@ -4,20 +4,35 @@ use rules::Idle;
 use rules::Inversion;
 use rules::Task;
 ghost use mathlib.Core.Path.{_≡_};
-ghost use Prim.Native.Nat.{_+_, _*_, _≤_};
+ghost use Prim.Native.Nat.{_+_, _*_, _≤_, _<_};
 ghost use lib.ListN.{length};
 ghost use Rattle.rules.specs.Marks as book-marks;
 ghost use Rattle.images.specs.Table.{mark-of, code-row, found-at, stands-at};
 ghost use Rattle.images.specs.Bodies.{part-of, head-of, task-of, entry-of, idle-of, inversion-of, count-of};
 
-// A mark's two bytes, the length of its body, the kinds of image that have it, and its rank, which never falls in an image.
+// What a record is to framing: TS, a task, a record of the head that may be missing, an SL or ID, an inversion, EN.
+pub enum Class {
+    Head,
+    Task,
+    Option,
+    Listed,
+    Inversion,
+    End,
+}
+
+// A mark's two bytes, the widths of its fields, 0 for none, the length of its body and of the whole record, the kinds of image that have it, its rank, which
+// never falls in an image, its class, and whether its record stands at most once.
 pub struct Row {
     pub first: u8,
     pub second: u8,
+    pub widths: [usize; 4],
     pub body: usize,
+    pub size: usize,
     pub timetable: bool,
     pub tables: bool,
     pub rank: usize,
+    pub class: Class,
+    pub once: bool,
 }
 
 // The places of the marks in the table.
@@ -37,52 +52,89 @@ pub const ROWS: [Row; 6] = [
     Row {
         first: 0x54,
         second: 0x53,
+        widths: [1, 1, 1, 0],
         body: 3,
+        size: 5,
         timetable: true,
         tables: true,
         rank: 0,
+        class: Class::Head,
+        once: true,
     },
     Row {
         first: 0x54,
         second: 0x4B,
+        widths: [4, 4, 4, 4],
         body: 16,
+        size: 18,
         timetable: true,
         tables: true,
         rank: 1,
+        class: Class::Task,
+        once: false,
     },
     Row {
         first: 0x53,
         second: 0x4C,
+        widths: [1, 4, 0, 0],
         body: 5,
+        size: 7,
         timetable: true,
         tables: false,
         rank: 6,
+        class: Class::Listed,
+        once: false,
     },
     Row {
         first: 0x49,
         second: 0x44,
+        widths: [4, 2, 0, 0],
         body: 6,
+        size: 8,
         timetable: false,
         tables: true,
         rank: 6,
+        class: Class::Listed,
+        once: false,
     },
     Row {
         first: 0x50,
         second: 0x56,
+        widths: [1, 2, 4, 0],
         body: 7,
+        size: 9,
         timetable: false,
         tables: true,
         rank: 7,
+        class: Class::Inversion,
+        once: false,
     },
     Row {
         first: 0x45,
         second: 0x4E,
+        widths: [4, 0, 0, 0],
         body: 4,
+        size: 6,
         timetable: true,
         tables: true,
         rank: 8,
+        class: Class::End,
+        once: true,
     },
 ];
+
+// The bytes of a whole record of each mark, mark included.
+pub const HEAD_SIZE: usize = ROWS[TS].size;
+
+pub const TASK_SIZE: usize = ROWS[TK].size;
+
+pub const ENTRY_SIZE: usize = ROWS[SL].size;
+
+pub const IDLE_SIZE: usize = ROWS[ID].size;
+
+pub const INVERSION_SIZE: usize = ROWS[PV].size;
+
+pub const END_SIZE: usize = ROWS[EN].size;
 
 // The row of a mark, EN's for a place behind the table.
 pub fn row_of(k: usize) -> Row
@@ -103,6 +155,29 @@ pub fn body_of(k: usize) -> usize
     ensures { λ r. ⌜ r ≡ book-marks.body-length (mark-of k) ⌝ }
 {
     row_of(k).body
+}
+
+// The bytes of a whole record, mark included.
+pub fn size_of(k: usize) -> usize
+    ensures { λ r. ⌜ r ≡ book-marks.size (mark-of k) ⌝ }
+{
+    row_of(k).size
+}
+
+// How many records the head of an image of n tasks has: TS and n TK.
+pub fn head_count(n: usize) -> usize
+    requires { ⌜ n < 4294967296 ⌝ }
+    ensures { λ r. ⌜ r ≡ book-marks.head-count-of n ⌝ }
+{
+    n + 1
+}
+
+// How many bytes they are.
+pub fn head_length(n: usize) -> usize
+    requires { ⌜ n < 4294967296 ⌝ }
+    ensures { λ r. ⌜ r ≡ book-marks.head-length-of n ⌝ }
+{
+    HEAD_SIZE + n * TASK_SIZE
 }
 
 // The place in the table of the mark that two bytes are, 6 where they are none.
@@ -136,7 +211,7 @@ pub fn stands(image: &[u8], at: usize, k: usize) -> bool
     ensures { λ r. ⌜ r ≡ stands-at (now (image .entry)) at (mark-of k) ⌝ }
 {
     let row = row_of(k);
-    if image.len() - at < row.body + 2 {
+    if image.len() - at < row.size {
         return false;
     }
     pair(image[at], image[at + 1]) == pair(row.first, row.second)
@@ -188,6 +263,14 @@ pub fn entry_body(body: &[u8]) -> Entry
         task: fields::read1(body, 0),
         start: fields::read4(body, 1),
     }
+}
+
+// The entry of the SL record at a byte offset.
+pub fn entry_at(image: &[u8], at: usize) -> Entry
+    requires { ⌜ at + book-marks.size book-marks.SL ≤ length (now image) ⌝ }
+    ensures { λ r. ⌜ r ≡ entry-of (part-of (now (image .entry)) (at + 2) (book-marks.body-length book-marks.SL)) ⌝ }
+{
+    entry_body(part(image, at + 2, ROWS[SL].body))
 }
 
 // ID's body: start, length.

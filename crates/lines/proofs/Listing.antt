@@ -9,15 +9,15 @@ use lib.Seq.{take-suc, getD-set-same, getD-set-other}
 use Rattle.rules.specs.declared.Task.{Task}
 use Rattle.rules.specs.declared.TaskSet.{TaskSet}
 use Rattle.rules.specs.declared.Entry.{Entry}
-use Rattle.rules.specs.Tasks.{limits, task}
+use Rattle.rules.specs.Tasks.{Set, limits, task}
 use Rattle.rules.specs.Timetable.{entry-at, count, job-at, end-at}
-use Rattle.rules.specs.Marks.{TS, SL, size, body-length}
+use Rattle.rules.specs.Marks.{TS, SL, size, body-length, head-length-of}
 use Rattle.rules.specs.Promised.{TimetableImage}
 use Rattle.rules.specs.Dispatcher.{zero-task}
 use Rattle.rules.proofs.Cases.{by-eq}
 use Rattle.rules.proofs.Positions.{count-more, count-same}
 use Rattle.images.specs.Bodies.{part-of, head-of, entry-of}
-use Rattle.framing.specs.SetRead.{tasks-offset, set-read}
+use Rattle.framing.specs.SetRead.{set-read}
 use Rattle.writing.proofs.Puts.{put-none, put-length}
 use Rattle.lines.specs.Text.{line, entry-line, entry-lines, ok-line, listing-of}
 use Rattle.lines.specs.Lists.{PutAt, CanList, Lists}
@@ -30,25 +30,25 @@ module _ {bytes old : List ℕ} (can : CanList bytes old) where
   pub head-inside : size TS ≤ length bytes
   head-inside = omega (arith, image-long (can .image))
 
-  pub tasks-told : (n : ℕ) → n ≡ head-of (part-of bytes 2 (body-length TS)) .n → n ≡ length (can .tasks)
+  pub tasks-told : (n : ℕ) → n ≡ head-of (part-of bytes 2 (body-length TS)) .n → n ≡ length (can .set .tasks)
   tasks-told n e = e ∙ head-stands (can .image)
 
-  pub set-inside : (n : ℕ) → n ≡ head-of (part-of bytes 2 (body-length TS)) .n → (n ≤ limits .tasks) × (tasks-offset n ≤ length bytes)
+  pub set-inside : (n : ℕ) → n ≡ head-of (part-of bytes 2 (body-length TS)) .n → (n ≤ limits .tasks) × (head-length-of n ≤ length bytes)
   set-inside n e = (omega (arith, tasks-told n e, can .image .good .few-tasks), omega (arith, tasks-told n e, image-long (can .image)))
 
 -- so many starts listed: their lines are put, the jobs of each task are counted, and the next entry stands at a byte offset
 pub record ListedSoFar (bytes old : List ℕ) (s : TaskSet) (jobs : List ℕ) (starts place at : ℕ) (out : List ℕ) : Type 0 where
   pub can : CanList bytes old
-  pub set-is : s ≡ set-read (length (can .tasks)) bytes
+  pub set-is : s ≡ set-read (length (can .set .tasks)) bytes
   pub so-far : starts ≤ length (can .entries)
-  pub here : at ≡ tasks-offset (length (can .tasks)) + starts * size SL
+  pub here : at ≡ head-length-of (length (can .set .tasks)) + starts * size SL
   pub slots : length jobs ≡ limits .tasks
   pub counted : (i : ℕ) → i < limits .tasks → getD jobs i 0 ≡ count i (take starts (can .entries))
-  pub put : PutAt old 0 (entry-lines (can .tasks) (can .entries) starts) place out
+  pub put : PutAt old 0 (entry-lines (can .set) (can .entries) starts) place out
 
 -- before the first entry
-pub listed-none : {bytes old : List ℕ} {s : TaskSet} {at : ℕ} (can : CanList bytes old) → s ≡ set-read (length (can .tasks)) bytes →
-    at ≡ tasks-offset (length (can .tasks)) → ListedSoFar bytes old s (replicate 16 0) 0 0 at old
+pub listed-none : {bytes old : List ℕ} {s : TaskSet} {at : ℕ} (can : CanList bytes old) → s ≡ set-read (length (can .set .tasks)) bytes →
+    at ≡ head-length-of (length (can .set .tasks)) → ListedSoFar bytes old s (replicate 16 0) 0 0 at old
 listed-none {old = old} can e p = record {
   can = can;
   set-is = e;
@@ -61,8 +61,8 @@ listed-none {old = old} can e p = record {
 
 module _ {bytes old : List ℕ} {s : TaskSet} {jobs : List ℕ} {starts place at : ℕ} {out : List ℕ}
     (w : ListedSoFar bytes old s jobs starts place at out) where
-  abbrev ts : List Task
-  ts = w .can .tasks
+  abbrev ts : Set
+  ts = w .can .set
 
   abbrev τ : List Entry
   τ = w .can .entries
@@ -104,7 +104,7 @@ module _ {bytes old : List ℕ} {s : TaskSet} {jobs : List ℕ} {starts place at
       is-entry = is ∙ entry-stands timetable starts at a-start (w .here)
 
       -- its task has a slot
-      a-task : x .task < length ts
+      a-task : x .task < length (ts .tasks)
       a-task = rw is-entry (timetable .valid .tasks-below-n starts a-start)
 
       pub a-slot : x .task < limits .tasks
@@ -174,7 +174,7 @@ module _ {bytes old : List ℕ} {s : TaskSet} {jobs : List ℕ} {starts place at
     ok-fits = second-fits (ok-line starts) all-room (w .put)
 
     -- what is then put is the listing of the one timetable whose image it is
-    whole-listing : (us : List Task) (σ : List Entry) → TimetableImage bytes us σ → entry-lines ts τ starts ++ ok-line starts ≡ listing-of us σ
+    whole-listing : (us : Set) (σ : List Entry) → TimetableImage bytes us σ → entry-lines ts τ starts ++ ok-line starts ≡ listing-of us σ
     unfolding listing-of
     whole-listing us σ u =
         let same = one-image timetable u in

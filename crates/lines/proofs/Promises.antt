@@ -7,10 +7,10 @@ use native.Mathlib.Omega.{arith}
 use lib.ListN.{length, take}
 use lib.Seq.{length-take-le, take-all}
 use borrow.Author.Tests.{le-leb, lt-leb}
-use Rattle.rules.specs.declared.Task.{Task}
 use Rattle.rules.specs.declared.Entry.{Entry}
 use Rattle.rules.specs.declared.Refusal.{Refusal}
 use Rattle.rules.specs.declared.CheckAnswer.the-variants.{Refused}
+use Rattle.rules.specs.Tasks.{Set}
 use Rattle.rules.specs.Refusals.{Judged, gives, refuses}
 use Rattle.rules.specs.Framing.{frame-records}
 use Rattle.rules.specs.Operations.{Timed, rebuilt, check-answer, check-tables}
@@ -32,7 +32,7 @@ one-listing {old = old} a b =
     (λ l. (a .short l .0 ∙ sym (b .short l .0), a .short l .1 ∙ sym (b .short l .1)))
 
 -- the image of a timetable's tables is listed as exactly that timetable
-pub accepted-listing : {bytes : List ℕ} {ts : List Task} {τ : List Entry} → TableImage bytes ts τ → listing bytes ≡ listing-of ts τ
+pub accepted-listing : {bytes : List ℕ} {ts : Set} {τ : List Entry} → TableImage bytes ts τ → listing bytes ≡ listing-of ts τ
 unfolding listing
 accepted-listing t = ap text-of (rebuilds t)
 

@@ -8,13 +8,12 @@ use borrow.Author.Tests.{le-leb}
 use lib.ListN.{length, take, drop, length-append}
 use lib.Seq.{take-at}
 use Rattle.fields.specs.Number.{Bytes}
-use Rattle.rules.specs.declared.Task.{Task}
 use Rattle.rules.specs.declared.Entry.{Entry}
 use Rattle.rules.specs.declared.Refusal.{Refusal}
 use Rattle.rules.specs.declared.MakeAnswer.{MakeAnswer}
 use Rattle.rules.specs.declared.MakeAnswer.the-variants.{Made, Refused}
 use Rattle.rules.specs.Refusals.{gives}
-use Rattle.rules.specs.Tasks.{GoodSet}
+use Rattle.rules.specs.Tasks.{Set, GoodSet}
 use Rattle.rules.specs.Timetable.{ValidTimetable}
 use Rattle.rules.specs.Image.{timetable-image}
 use Rattle.rules.specs.Operations.{Timed, rebuilt, rebuilt-image, check-answer, check-tables, make-answer, rebuild, rebuild-output}
@@ -27,21 +26,21 @@ use Rattle.lines.specs.Lists.{longest-image}
 use Rattle.lines.proofs.TextLengths.{few-entries}
 
 -- the image of a valid timetable is no longer than the longest
-pub image-short : {ts : List Task} {h : ℕ} {τ : List Entry} → GoodSet ts h → ValidTimetable ts h τ → length (timetable-image ts τ) ≤ longest-image
+pub image-short : {ts : Set} {h : ℕ} {τ : List Entry} → GoodSet ts h → ValidTimetable ts h τ → length (timetable-image ts τ) ≤ longest-image
 image-short {ts} {h} {τ} good valid = omega (arith, timetable-image-length ts τ, good .few-tasks, few-entries good valid)
 
 -- a timetable that is rebuilt, and its image in the scratch
 pub record RebuiltIn (bytes scratch : List ℕ) (n : ℕ) : Type 0 where
-  pub tasks : List Task
+  pub set : Set
   pub entries : List Entry
   pub inside : n ≤ length scratch
-  pub image : TimetableImage (take n scratch) tasks entries
-  pub listed : listing bytes ≡ listing-of tasks entries
+  pub image : TimetableImage (take n scratch) set entries
+  pub listed : listing bytes ≡ listing-of set entries
 
 module _ (bytes old : List ℕ) (b : Bytes bytes) (long : length old ≡ longest-image) where
   -- what is not refused is rebuilt in the scratch
   given : {i : Timed} → rebuilt bytes ≡ gives i →
-      (ts : List Task) × (τ : List Entry) × TableImage bytes ts τ × (rebuilt-image (length old) bytes ≡ gives (timetable-image ts τ))
+      (ts : Set) × (τ : List Entry) × TableImage bytes ts τ × (rebuilt-image (length old) bytes ≡ gives (timetable-image ts τ))
   unfolding check-tables
   given {i} e =
       let w = accepts-tables bytes b .0 (ap check-answer e) in
@@ -76,7 +75,7 @@ module _ (bytes old : List ℕ) (b : Bytes bytes) (long : length old ≡ longest
         let many : length (timetable-image (g .0) (g .1)) ≡ n = cc in
         let written : out ≡ timetable-image (g .0) (g .1) ++ drop (length (timetable-image (g .0) (g .1))) old = left ∙ rw (g .3) in
         record {
-          tasks = g .0;
+          set = g .0;
           entries = g .1;
           inside = omega (arith, ap length written, length-append (timetable-image (g .0) (g .1)) (drop (length (timetable-image (g .0) (g .1))) old));
           image = record { h = t .h; good = t .good; valid = t .valid; is = ap (take n) written ∙ take-at (timetable-image (g .0) (g .1)) _ n many };

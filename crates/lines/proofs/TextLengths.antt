@@ -6,10 +6,9 @@ use native.Mathlib.Omega.{arith}
 use lib.Dec.{eqb}
 use lib.ListN.{length, take, length-append}
 use lib.Seq.{length-take-le}
-use Rattle.rules.specs.declared.Task.{Task}
 use Rattle.rules.specs.declared.Entry.{Entry}
 use Rattle.rules.specs.declared.Refusal.{Refusal}
-use Rattle.rules.specs.Tasks.{limits, task, jobs, GoodSet}
+use Rattle.rules.specs.Tasks.{Set, limits, task, jobs, GoodSet}
 use Rattle.rules.specs.Timetable.{entry-at, count, job-at, end-at, ValidTimetable}
 use Rattle.rules.proofs.Cases.{by-bool, by-le}
 use Rattle.rules.proofs.GoodSets.{good-rules}
@@ -61,13 +60,13 @@ count-few i (e ∷ τ) =
     by-bool (eqb (e .task) i) (λ b. rw b (omega (arith, count-few i τ))) (λ b. rw b (omega (arith, count-few i τ)))
 
 -- lines of fewer entries are no longer
-pub lines-within : (ts : List Task) (τ : List Entry) (j m : ℕ) → j ≤ m → length (entry-lines ts τ j) ≤ length (entry-lines ts τ m)
+pub lines-within : (ts : Set) (τ : List Entry) (j m : ℕ) → j ≤ m → length (entry-lines ts τ j) ≤ length (entry-lines ts τ m)
 lines-within ts τ j zero l = let e : j ≡ 0 = omega arith in rw e (omega arith)
 lines-within ts τ j (suc m) l =
     by-le j m (λ k. omega (arith, lines-within ts τ j m k, length-append (entry-lines ts τ m) (entry-line ts τ m)))
     (λ k. let e : j ≡ suc m = omega arith in rw e (omega arith))
 
-module _ {ts : List Task} {h : ℕ} {τ : List Entry} (good : GoodSet ts h) (valid : ValidTimetable ts h τ) where
+module _ {ts : Set} {h : ℕ} {τ : List Entry} (good : GoodSet ts h) (valid : ValidTimetable ts h τ) where
   -- a valid timetable has no more entries than a cycle may have jobs
   pub few-entries : length τ ≤ limits .jobs
   few-entries = omega (arith, valid-length valid, good .few-jobs)

@@ -3,10 +3,9 @@ use mathlib.Core.Path.{_≡_}
 use mathlib.Core.List.{List, _++_}
 use Prim.Native.Nat.{ℕ, _+_, _*_, _≤_, _<_}
 use lib.ListN.{length, drop}
-use Rattle.rules.specs.declared.Task.{Task}
 use Rattle.rules.specs.declared.Entry.{Entry}
-use Rattle.rules.specs.Tasks.{limits}
-use Rattle.rules.specs.Marks.{TS, TK, SL, EN, size}
+use Rattle.rules.specs.Tasks.{Set, limits}
+use Rattle.rules.specs.Marks.{SL, EN, size, head-length-of}
 use Rattle.rules.specs.Promised.{TimetableImage}
 use Rattle.writing.specs.Writing.{put-at}
 use Rattle.lines.specs.Text.{listing-of, program-text}
@@ -23,18 +22,18 @@ pub record AtFront (text old : List ℕ) (r : ℕ) (out : List ℕ) : Type 0 whe
 
 -- the image of a valid timetable, and an output with room for its listing
 pub record CanList (bytes : List ℕ) (out : List ℕ) : Type 0 where
-  pub tasks : List Task
+  pub set : Set
   pub entries : List Entry
-  pub image : TimetableImage bytes tasks entries
-  pub room : length (listing-of tasks entries) ≤ length out
+  pub image : TimetableImage bytes set entries
+  pub room : length (listing-of set entries) ≤ length out
 
 -- the listing of the timetable whose image it is
 unfoldable pub Lists : List ℕ → List ℕ → ℕ → List ℕ → Type 0
-Lists bytes old r out = (ts : List Task) (τ : List Entry) → TimetableImage bytes ts τ → AtFront (listing-of ts τ) old r out
+Lists bytes old r out = (ts : Set) (τ : List Entry) → TimetableImage bytes ts τ → AtFront (listing-of ts τ) old r out
 
 -- the bytes of the longest image of a valid timetable: TS, 16 tasks, 4,096 entries, EN; 28,971
 abbrev pub longest-image : ℕ
-longest-image = size TS + limits .tasks * size TK + limits .jobs * size SL + size EN
+longest-image = head-length-of (limits .tasks) + limits .jobs * size SL + size EN
 
 -- room for every listing, 81,928 bytes: 4,096 lines of 20, and a last line of 8
 abbrev pub room : ℕ

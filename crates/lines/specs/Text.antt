@@ -3,9 +3,9 @@ use mathlib.Core.List.{List, [], _∷_, _++_}
 use Prim.Native.Nat.{ℕ, zero, suc, _+_, _/_, _%_}
 use lib.Dec.{ltb, leb}
 use lib.ListN.{length}
-use Rattle.rules.specs.declared.Task.{Task}
 use Rattle.rules.specs.declared.Entry.{Entry}
 use Rattle.rules.specs.declared.Refusal.{Refusal}
+use Rattle.rules.specs.Tasks.{Set}
 use Rattle.rules.specs.Refusals.{Judged, gives, refuses, refusal}
 use Rattle.rules.specs.Timetable.{pick, entry-at, job-at, end-at}
 use Rattle.rules.specs.Operations.{Timed, rebuilt}
@@ -39,11 +39,11 @@ unfoldable pub line : ℕ → ℕ → ℕ → ℕ → List ℕ
 line task job start end = number-then task space ++ (number-then job space ++ (number-then start space ++ number-then end line-end))
 
 -- the line of entry j of a timetable
-abbrev pub entry-line : List Task → List Entry → ℕ → List ℕ
+abbrev pub entry-line : Set → List Entry → ℕ → List ℕ
 entry-line ts τ j = line (entry-at τ j .task) (job-at τ j) (entry-at τ j .start) (end-at ts τ j)
 
 -- the lines of the first so many entries
-abbrev pub entry-lines : List Task → List Entry → ℕ → List ℕ
+abbrev pub entry-lines : Set → List Entry → ℕ → List ℕ
 entry-lines ts τ zero = []
 entry-lines ts τ (suc j) = entry-lines ts τ j ++ entry-line ts τ j
 
@@ -59,7 +59,7 @@ unfoldable pub ok-line : ℕ → List ℕ
 ok-line starts = ok-word ++ number-then starts line-end
 
 -- the listing of a timetable: a line for each start, then the last line
-unfoldable pub listing-of : List Task → List Entry → List ℕ
+unfoldable pub listing-of : Set → List Entry → List ℕ
 listing-of ts τ = entry-lines ts τ (length τ) ++ ok-line (length τ)
 
 -- a refusal is one line: "refused ", its number and its place
@@ -68,7 +68,7 @@ refused-text r = refused-word ++ (number-then (r .number) space ++ number-then (
 
 -- what judging came to, as text
 abbrev pub text-of : Judged Timed → List ℕ
-text-of (gives i) = listing-of (i .tasks) (i .entries)
+text-of (gives i) = listing-of (i .set) (i .entries)
 text-of (refuses r) = refused-text r
 
 -- the listing of any bytes as a table image: the timetable that is rebuilt, or the refusal

@@ -1,17 +1,17 @@
 // Lines: the text of a timetable's listing, and of a refusal; and what the program writes for its whole input.
-use images::EN;
+use images::END_SIZE;
+use images::ENTRY_SIZE;
+use images::HEAD_SIZE;
 use images::ROWS;
-use images::SL;
-use images::TK;
+use images::TASK_SIZE;
 use images::TS;
-use rules::Entry;
 use rules::MakeAnswer;
 use rules::Refusal;
 ghost use mathlib.Core.Path.{_≡_};
 ghost use Prim.Native.Nat.{_+_, _≤_};
 ghost use lib.ListN.{length};
 ghost use Rattle.rules.specs.Marks as book-marks;
-ghost use Rattle.images.specs.Bodies.{part-of, head-of, entry-of};
+ghost use Rattle.images.specs.Bodies.{part-of, head-of};
 ghost use Rattle.lines.specs.Text.{number-then, line, ok-line, refused-text, too-long, listing};
 ghost use Rattle.lines.specs.Lists.{PutAt, AtFront, CanList, Lists, longest-image, room, Listed};
 
@@ -92,23 +92,6 @@ fn tasks_in(image: &[u8]) -> u32
     images::head_body(images::part(image, 2, ROWS[TS].body)).n
 }
 
-// The entry at a byte offset.
-fn entry_at(image: &[u8], at: usize) -> Entry
-    requires { ⌜ at + book-marks.size book-marks.SL ≤ length (now image) ⌝ }
-    ensures { λ r. ⌜ r ≡ entry-of (part-of (now (image .entry)) (at + 2) (book-marks.body-length book-marks.SL)) ⌝ }
-{
-    images::entry_body(images::part(image, at + 2, ROWS[SL].body))
-}
-
-// The bytes of a whole record of each mark of a timetable image.
-const HEAD: usize = ROWS[TS].body + 2;
-
-const TASK: usize = ROWS[TK].body + 2;
-
-const ENTRY: usize = ROWS[SL].body + 2;
-
-const END: usize = ROWS[EN].body + 2;
-
 // The listing of the valid timetable whose image is given, at the front of an output: SL records in turn, up to EN.
 fn list_timetable(image: &[u8], out: &mut [u8]) -> usize
     requires { ⌜ CanList (now image) (now out) ⌝ }
@@ -119,21 +102,21 @@ fn list_timetable(image: &[u8], out: &mut [u8]) -> usize
     let mut jobs = [0u32; 16];
     let mut starts: u64 = 0;
     let mut place: usize = 0;
-    let mut at = HEAD + n * TASK;
-    while at + END < image.len() {
-        let e = entry_at(image, at);
+    let mut at = images::head_length(n);
+    while at + END_SIZE < image.len() {
+        let e = images::entry_at(image, at);
         let i = e.task as usize;
         let t = s.tasks[i];
         place = put_line(out, place, e.task, jobs[i], e.start, e.start + t.time);
         jobs[i] += 1;
         starts += 1;
-        at += ENTRY;
+        at += ENTRY_SIZE;
     }
     put_ok(out, place, starts)
 }
 
 // The bytes of the longest timetable image, and room for every listing.
-const LONGEST: usize = HEAD + 16 * TASK + 4096 * ENTRY + END;
+const LONGEST: usize = HEAD_SIZE + 16 * TASK_SIZE + 4096 * ENTRY_SIZE + END_SIZE;
 
 pub const ROOM: usize = 4096 * 20 + 8;
 

@@ -4,7 +4,7 @@ use mathlib.Core.List.{List, [], _∷_, _++_}
 use Prim.Native.Nat.{ℕ, zero, suc, _+_, _-_, _<_}
 use native.Mathlib.Numerals.{add-one}
 use native.Mathlib.Omega.{arith}
-use lib.ListN.{length, set, replicate}
+use lib.ListN.{length, getD, set, replicate}
 use lib.Seq.{set-at, append-snoc}
 use Rattle.rules.specs.Tasks.{limits}
 use Rattle.numbers.specs.Numbers.{slots-from, slots}
@@ -19,6 +19,17 @@ module _ {A : Type 0} (value : ℕ → A) where
   -- sixteen slots are sixteen
   pub sixteen : length (slots value) ≡ limits .tasks
   sixteen = as-many 0 (limits .tasks)
+
+  -- what stands in the k-th of so many slots
+  kth-slot : (empty : A) (i many k place : ℕ) → k < many → place ≡ i + k → getD (slots-from value i many) k empty ≡ value place
+  unfolding slots-from
+  kth-slot empty i zero k place l e = absurd (omega arith)
+  kth-slot empty i (suc many) zero place l e = let here : i ≡ place = omega arith in ap value here
+  kth-slot empty i (suc many) (suc k) place l e = kth-slot empty (suc i) many k place (omega arith) (omega arith)
+
+  -- what stands in one of sixteen
+  pub in-slot : (empty : A) (i : ℕ) → i < limits .tasks → getD (slots value) i empty ≡ value i
+  in-slot empty i l = kth-slot empty 0 (limits .tasks) i i l (omega arith)
 
   -- one slot more, the k-th, stands behind the others
   slots-more : (i many k : ℕ) → k ≡ i + many → slots-from value i (suc many) ≡ slots-from value i many ++ (value k ∷ [])

@@ -2,4 +2,3 @@ pub mod FilledSlots
 pub mod StoredNumbers
 pub mod StateNumbers
 pub mod SetNumbers
-pub mod StoredMoves

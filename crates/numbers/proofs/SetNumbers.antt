@@ -1,7 +1,7 @@
 -- A set's numbers: the tasks in its slots, and the set that stored tasks are. Assumes nothing.
 use mathlib.Core.Path.{_≡_, refl, sym, _∙_, ap}
 use mathlib.Core.List.{List, [], _++_, append-nil}
-use Prim.Native.Nat.{ℕ, zero, suc, _+_, _*_, _<_}
+use Prim.Native.Nat.{ℕ, _+_, _*_, _<_}
 use native.Mathlib.Omega.{arith}
 use lib.ListN.{length, getD, drop, drop-of-length-le}
 use lib.Seq.{sets}
@@ -10,18 +10,10 @@ use Rattle.rules.specs.declared.TaskSet.{TaskSet}
 use Rattle.rules.specs.Tasks.{limits}
 use Rattle.rules.specs.Dispatcher.{task-numbers}
 use Rattle.rules.proofs.PossibleStates.{four-each}
-use Rattle.numbers.specs.Numbers.{slots-from, task-from, set-from}
-use Rattle.numbers.proofs.FilledSlots.{sixteen}
+use Rattle.numbers.specs.Numbers.{task-from, set-from}
+use Rattle.numbers.proofs.FilledSlots.{sixteen, in-slot}
 use Rattle.numbers.proofs.StoredNumbers.{stored-over}
 use Rattle.numbers.proofs.StateNumbers.{tasks-then, same-tasks}
-
--- a slot holds its value
-slot-in : {A : Type 0} (value : ℕ → A) (empty : A) (i many k place : ℕ) → k < many → place ≡ i + k →
-    getD (slots-from value i many) k empty ≡ value place
-unfolding slots-from
-slot-in value empty i zero k place l e = absurd (omega arith)
-slot-in value empty i (suc many) zero place l e = let here : place ≡ i = omega arith in rw here
-slot-in value empty i (suc many) (suc k) place l e = slot-in value empty (suc i) many k place (omega arith) (omega arith)
 
 -- a set has sixteen slots
 pub sixteen-tasks : (n : ℕ) (lent : List ℕ) (at : ℕ) → length (set-from n lent at .tasks) ≡ limits .tasks
@@ -30,7 +22,7 @@ sixteen-tasks n lent at = sixteen (λ (k : ℕ). task-from lent (at + 4 * k))
 -- a set's slot holds the task that its four numbers are
 pub task-in : (n : ℕ) (lent : List ℕ) (at : ℕ) (empty : Task) (i : ℕ) → i < limits .tasks →
     task-from lent (at + 4 * i) ≡ getD (set-from n lent at .tasks) i empty
-task-in n lent at empty i l = sym (slot-in (λ (k : ℕ). task-from lent (at + 4 * k)) empty 0 16 i i l (omega arith))
+task-in n lent at empty i l = sym (in-slot (λ (k : ℕ). task-from lent (at + 4 * k)) empty i l)
 
 -- the set that its stored tasks are, with its n: that set
 pub set-of-stored : (s : TaskSet) (old : List ℕ) → length (s .tasks) ≡ limits .tasks → length old ≡ 64 →

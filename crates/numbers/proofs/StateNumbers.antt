@@ -1,4 +1,4 @@
--- The dispatcher's state and its 119 numbers correspond one to one. Assumes nothing.
+-- The dispatcher's state and its numbers correspond one to one. Assumes nothing.
 use mathlib.Core.Path.{_≡_, refl, sym, _∙_, ap}
 use mathlib.Core.List.{List, [], _∷_, _++_, append-nil}
 use Prim.Native.Nat.{ℕ, zero, suc, _+_, _*_, _≤_, _<_}
@@ -8,6 +8,7 @@ use lib.Seq.{drop-cons}
 use Rattle.rules.specs.declared.Task.{Task}
 use Rattle.rules.specs.declared.Dispatcher.{Dispatcher as State}
 use Rattle.rules.specs.Dispatcher.{task-numbers, numbers, Shaped, number-count}
+use Rattle.rules.specs.Dispatcher.{next-at, cycle-at, task-at, job-at, start-at, idle-at, inversions-at, first-idle-at, first-inversions-at}
 use Rattle.rules.proofs.PossibleStates.{four-each, count-numbers}
 use Rattle.rules.proofs.Cases.{clash}
 use Rattle.numbers.specs.Numbers.{slots-from, number-at, task-from, numbers-from, state-from}
@@ -49,31 +50,31 @@ module _ (lent : List ℕ) where
   sixteen-then : (at behind : ℕ) → behind ≡ at + 16 → behind ≤ length lent → numbers-from lent at ++ drop behind lent ≡ drop at lent
   sixteen-then at behind e l = numbers-then at 0 16 at behind (omega arith) e l
 
-  -- the numbers of the state that 119 numbers are: those numbers
+  -- the numbers of the state that numbers are: those numbers
   pub numbers-of-state : length lent ≡ number-count → numbers (state-from lent) ≡ lent
   numbers-of-state long =
       let tasks = task-numbers (state-from lent .set .tasks) in
-      let next = numbers-from lent 65 in
-      let now = numbers-from lent 86 in
-      let first = numbers-from lent 103 in
-      let none : drop 119 lent ≡ [] = drop-of-length-le lent {i = 119} (omega arith) in
-      let from-103 : first ≡ drop 103 lent =
-      sym (append-nil first) ∙ ap (λ (x : List ℕ). first ++ x) (sym none) ∙ sixteen-then 103 119 refl (omega arith) in
-      let from-86 : now ++ (number-at lent 102 ∷ first) ≡ drop 86 lent =
-      ap (λ (x : List ℕ). now ++ (number-at lent 102 ∷ x)) from-103
-      ∙ ap (λ (x : List ℕ). now ++ x) (number-then 102 (omega arith))
-      ∙ sixteen-then 86 102 refl (omega arith) in
-      let running : List ℕ → List ℕ = λ (x : List ℕ). number-at lent 81 ∷ number-at lent 82 ∷ number-at lent 83 ∷ number-at lent 84 ∷ x in
-      let from-81 : running (number-at lent 85 ∷ (now ++ (number-at lent 102 ∷ first))) ≡ drop 81 lent =
-      ap (λ (x : List ℕ). running (number-at lent 85 ∷ x)) from-86
-      ∙ ap running (number-then 85 (omega arith))
-      ∙ ap (λ (x : List ℕ). number-at lent 81 ∷ number-at lent 82 ∷ number-at lent 83 ∷ x) (number-then 84 (omega arith))
-      ∙ ap (λ (x : List ℕ). number-at lent 81 ∷ number-at lent 82 ∷ x) (number-then 83 (omega arith))
-      ∙ ap (λ (x : List ℕ). number-at lent 81 ∷ x) (number-then 82 (omega arith))
-      ∙ number-then 81 (omega arith) in
-      ap (λ (x : List ℕ). number-at lent 0 ∷ (tasks ++ (next ++ x))) from-81
-      ∙ ap (λ (x : List ℕ). number-at lent 0 ∷ (tasks ++ x)) (sixteen-then 65 81 refl (omega arith))
-      ∙ ap (λ (x : List ℕ). number-at lent 0 ∷ x) (tasks-then 1 0 16 1 65 refl refl (omega arith))
+      let next = numbers-from lent next-at in
+      let now = numbers-from lent inversions-at in
+      let first = numbers-from lent first-inversions-at in
+      let none : drop number-count lent ≡ [] = drop-of-length-le lent {i = number-count} (omega arith) in
+      let from-first : first ≡ drop first-inversions-at lent =
+      sym (append-nil first) ∙ ap (λ (x : List ℕ). first ++ x) (sym none) ∙ sixteen-then first-inversions-at number-count refl (omega arith) in
+      let from-now : now ++ (number-at lent first-idle-at ∷ first) ≡ drop inversions-at lent =
+      ap (λ (x : List ℕ). now ++ (number-at lent first-idle-at ∷ x)) from-first
+      ∙ ap (λ (x : List ℕ). now ++ x) (number-then first-idle-at (omega arith))
+      ∙ sixteen-then inversions-at first-idle-at refl (omega arith) in
+      let running : List ℕ → List ℕ = λ (x : List ℕ). number-at lent cycle-at ∷ number-at lent task-at ∷ number-at lent job-at ∷ number-at lent start-at ∷ x in
+      let from-cycle : running (number-at lent idle-at ∷ (now ++ (number-at lent first-idle-at ∷ first))) ≡ drop cycle-at lent =
+      ap (λ (x : List ℕ). running (number-at lent idle-at ∷ x)) from-now
+      ∙ ap running (number-then idle-at (omega arith))
+      ∙ ap (λ (x : List ℕ). number-at lent cycle-at ∷ number-at lent task-at ∷ number-at lent job-at ∷ x) (number-then start-at (omega arith))
+      ∙ ap (λ (x : List ℕ). number-at lent cycle-at ∷ number-at lent task-at ∷ x) (number-then job-at (omega arith))
+      ∙ ap (λ (x : List ℕ). number-at lent cycle-at ∷ x) (number-then task-at (omega arith))
+      ∙ number-then cycle-at (omega arith) in
+      ap (λ (x : List ℕ). number-at lent 0 ∷ (tasks ++ (next ++ x))) from-cycle
+      ∙ ap (λ (x : List ℕ). number-at lent 0 ∷ (tasks ++ x)) (sixteen-then next-at cycle-at refl (omega arith))
+      ∙ ap (λ (x : List ℕ). number-at lent 0 ∷ x) (tasks-then 1 0 16 1 next-at refl refl (omega arith))
       ∙ number-then 0 (omega arith)
 
   -- that state has sixteen slots in each of its lists

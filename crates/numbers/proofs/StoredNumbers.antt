@@ -1,14 +1,15 @@
 -- Numbers that are stored one part behind the other, until all numbers of the dispatcher's state stand there. Assumes nothing.
 use mathlib.Core.Path.{_≡_, refl, sym, _∙_, ap}
 use mathlib.Core.List.{List, [], _∷_, _++_, append-nil}
-use Prim.Native.Nat.{ℕ, suc, _+_, _*_, _≤_, _<_}
+use Prim.Native.Nat.{ℕ, suc, _+_, _*_, _<_}
 use native.Mathlib.Numerals.{add-one}
 use native.Mathlib.Omega.{arith}
-use lib.ListN.{length, take, getD, set, replicate, length-replicate, getD-replicate, drop-of-length-le}
-use lib.Seq.{take-suc, take-all, length-take-le, sets, sets-eq}
+use lib.ListN.{length, take, getD, set, drop-of-length-le}
+use lib.Seq.{take-suc, length-take-le, sets, sets-eq}
 use Rattle.rules.specs.declared.Task.{Task}
 use Rattle.rules.specs.declared.Dispatcher.{Dispatcher as State}
-use Rattle.rules.specs.Dispatcher.{task-numbers, numbers, zero-task, stopped, Shaped, number-count}
+use Rattle.rules.specs.Dispatcher.{task-numbers, numbers, zero-task, Shaped, number-count}
+use Rattle.rules.specs.Dispatcher.{next-at, cycle-at, task-at, job-at, start-at, idle-at, inversions-at, first-idle-at, first-inversions-at}
 use Rattle.rules.proofs.PossibleStates.{four-each, count-numbers}
 
 -- two parts, the second behind the first, are stored as one
@@ -40,40 +41,25 @@ task-more old ts at i l =
 pub stored-over : (x old : List ℕ) → length old ≡ length x → sets old 0 x ≡ x
 stored-over x old e = sets-eq x old 0 (omega arith) ∙ rw (drop-of-length-le old {i = 0 + length x} (omega arith), append-nil x)
 
--- one zero more is stored
-pub zero-more : (old : List ℕ) (i : ℕ) → i < 119 → set (sets old 0 (take i (replicate 119 0))) i 0 ≡ sets old 0 (take (i + 1) (replicate 119 0))
-zero-more old i l =
-    let stored = sets old 0 (take i (replicate 119 0)) in
-    let here : i ≡ 0 + i = omega arith in
-    ap (λ (at : ℕ). set stored at 0) here
-    ∙ ap (set stored (0 + i)) (sym (getD-replicate 119 i 0 0 l))
-    ∙ number-more old (replicate 119 0) 0 i (omega (arith, length-replicate {A = ℕ} 119 0))
-
--- with every number 0 the stopped state's stand there
-pub all-zeros : (old : List ℕ) (i : ℕ) → 119 ≤ i → length old ≡ number-count → sets old 0 (take i (replicate 119 0)) ≡ numbers stopped
-all-zeros old i l long =
-    rw (take-all {A = ℕ} i (replicate 119 0) (omega (arith, length-replicate {A = ℕ} 119 0)))
-    (stored-over (replicate 119 0) old (omega (arith, length-replicate {A = ℕ} 119 0)))
-
 -- the state's numbers, stored part behind part
 pub all-stored : (s : State) → Shaped s → (old tasks next now first : List ℕ) → length old ≡ number-count →
     tasks ≡ sets (set old 0 (s .set .n)) 1 (task-numbers (s .set .tasks)) →
-    next ≡ sets tasks 65 (s .next) →
+    next ≡ sets tasks next-at (s .next) →
     now
     ≡ sets
-    (set (set (set (set (set next 81 (s .cycle)) 82 (s .running .task)) 83 (s .running .job)) 84 (s .running .start)) 85 (s .now .idle))
-    86
+    (set (set (set (set (set next cycle-at (s .cycle)) task-at (s .running .task)) job-at (s .running .job)) start-at (s .running .start)) idle-at (s .now .idle))
+    inversions-at
     (s .now .inversions) →
-    first ≡ sets (set now 102 (s .first .idle)) 103 (s .first .inversions) →
+    first ≡ sets (set now first-idle-at (s .first .idle)) first-inversions-at (s .first .inversions) →
     first ≡ numbers s
 all-stored s w old tasks next now first long at-tasks at-next at-now at-first =
     let rest-now = s .first .idle ∷ s .first .inversions in
     let rest-next = s .cycle ∷ s .running .task ∷ s .running .job ∷ s .running .start ∷ s .now .idle ∷ (s .now .inversions ++ rest-now) in
     at-first
-    ∙ ap (λ (x : List ℕ). sets x 102 rest-now) at-now
-    ∙ stored-behind (s .now .inversions) rest-now _ 86 102 (omega (arith, w))
-    ∙ ap (λ (x : List ℕ). sets x 81 rest-next) at-next
-    ∙ stored-behind (s .next) rest-next tasks 65 81 (omega (arith, w))
-    ∙ ap (λ (x : List ℕ). sets x 65 (s .next ++ rest-next)) at-tasks
-    ∙ stored-behind (task-numbers (s .set .tasks)) (s .next ++ rest-next) (set old 0 (s .set .n)) 1 65 (omega (arith, w, four-each (s .set .tasks)))
+    ∙ ap (λ (x : List ℕ). sets x first-idle-at rest-now) at-now
+    ∙ stored-behind (s .now .inversions) rest-now _ inversions-at first-idle-at (omega (arith, w))
+    ∙ ap (λ (x : List ℕ). sets x cycle-at rest-next) at-next
+    ∙ stored-behind (s .next) rest-next tasks next-at cycle-at (omega (arith, w))
+    ∙ ap (λ (x : List ℕ). sets x next-at (s .next ++ rest-next)) at-tasks
+    ∙ stored-behind (task-numbers (s .set .tasks)) (s .next ++ rest-next) (set old 0 (s .set .n)) 1 next-at (omega (arith, w, four-each (s .set .tasks)))
     ∙ stored-over (numbers s) old (long ∙ sym (count-numbers s w))

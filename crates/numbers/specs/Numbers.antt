@@ -7,6 +7,7 @@ use Rattle.rules.specs.declared.TaskSet.{TaskSet}
 use Rattle.rules.specs.declared.Offsets.{Offsets}
 use Rattle.rules.specs.declared.Dispatcher.{Dispatcher as State}
 use Rattle.rules.specs.Tasks.{limits}
+use Rattle.rules.specs.Dispatcher.{next-at, cycle-at, task-at, job-at, start-at, idle-at, first-idle-at}
 
 -- so many slots from the i-th on, each with its value
 unfoldable pub slots-from : {A : Type 0} → (ℕ → A) → ℕ → ℕ → List A
@@ -42,13 +43,13 @@ numbers-from lent at = slots (λ (i : ℕ). number-at lent (at + i))
 abbrev pub offsets-from : List ℕ → ℕ → Offsets
 offsets-from lent at = record { idle = number-at lent at; inversions = numbers-from lent (at + 1) }
 
--- the dispatcher's state that 119 numbers are
+-- the dispatcher's state that its numbers are
 abbrev pub state-from : List ℕ → State
 state-from lent = record {
   set = set-from (number-at lent 0) lent 1;
-  next = numbers-from lent 65;
-  cycle = number-at lent 81;
-  running = record { task = number-at lent 82; job = number-at lent 83; start = number-at lent 84 };
-  now = offsets-from lent 85;
-  first = offsets-from lent 102;
+  next = numbers-from lent next-at;
+  cycle = number-at lent cycle-at;
+  running = record { task = number-at lent task-at; job = number-at lent job-at; start = number-at lent start-at };
+  now = offsets-from lent idle-at;
+  first = offsets-from lent first-idle-at;
 }

@@ -7,11 +7,11 @@ use Prim.Native.Nat.{ℕ, _≤_}
 use lib.ListN.{length, take, drop}
 use borrow.Author.Tests.{le-leb}
 use Rattle.fields.specs.Number.{Bytes}
-use Rattle.rules.specs.declared.Task.{Task}
 use Rattle.rules.specs.declared.Entry.{Entry}
 use Rattle.rules.specs.declared.Refusal.{Refusal}
 use Rattle.rules.specs.declared.MakeAnswer.{MakeAnswer}
 use Rattle.rules.specs.declared.MakeAnswer.the-variants.{Made, Refused}
+use Rattle.rules.specs.Tasks.{Set}
 use Rattle.rules.specs.Refusals.{Judged, gives}
 use Rattle.rules.specs.Image.{timetable-image}
 use Rattle.rules.specs.Operations.{rebuilt-image, make-answer, output-after, rebuild, rebuild-output, Rebuilds}
@@ -36,7 +36,7 @@ module _ (bytes old : List ℕ) (r : MakeAnswer) (out : List ℕ) (met : Rebuild
       (λ e. exactly .0 (sym (met .answer) ∙ e), λ w. met .answer ∙ exactly .1 w)
 
   -- from the image of a timetable's tables, where there is room, the image of exactly that timetable is written, and later bytes keep their values
-  pub writes-exactly : {ts : List Task} {τ : List Entry} → TableImage bytes ts τ → length (timetable-image ts τ) ≤ length old →
+  pub writes-exactly : {ts : Set} {τ : List Entry} → TableImage bytes ts τ → length (timetable-image ts τ) ≤ length old →
       (r ≡ Made (length (timetable-image ts τ))) × (out ≡ timetable-image ts τ ++ drop (length (timetable-image ts τ)) old)
   unfolding rebuild rebuild-output
   writes-exactly {ts} {τ} t room =
@@ -46,7 +46,7 @@ module _ (bytes old : List ℕ) (r : MakeAnswer) (out : List ℕ) (met : Rebuild
 
   -- and a length is answered only where the bytes are such an image, and that timetable's image is what was written
   pub writes-only : Bytes bytes → (n : ℕ) → r ≡ Made n →
-      (ts : List Task) × (τ : List Entry) × TableImage bytes ts τ × (take n out ≡ timetable-image ts τ)
+      (ts : Set) × (τ : List Entry) × TableImage bytes ts τ × (take n out ≡ timetable-image ts τ)
   writes-only b n e =
       let w = rebuild-made bytes old n b (sym (met .answer) ∙ e) in
       (w .0, w .1, w .2, ap (take n) (met .output) ∙ w .3)

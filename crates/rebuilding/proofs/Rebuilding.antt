@@ -1,30 +1,29 @@
 -- Rebuilding from a table image that is judged: the refusal that it was judged with, no room, or the image of its timetable. Assumes nothing.
 use mathlib.Core.Path.{_≡_, sym, _∙_, ap, ap₂}
 use mathlib.Core.List.{List, [], _∷_, map}
-use Prim.Native.Nat.{ℕ, suc, _+_, _*_, _≤_, _<_}
+use Prim.Native.Nat.{ℕ, _+_, _*_, _≤_, _<_}
 use native.Mathlib.Omega.{arith}
 use lib.ListN.{length, length-map}
-use lib.Seq.{length-take-le}
 use borrow.Author.Tests.{le-leb, lt-leb}
-use Rattle.rules.specs.declared.Task.{Task}
 use Rattle.rules.specs.declared.TaskSet.{TaskSet}
 use Rattle.rules.specs.declared.Entry.{Entry}
 use Rattle.rules.specs.declared.Offsets.{Offsets}
 use Rattle.rules.specs.declared.Refusal.{Refusal}
 use Rattle.rules.specs.declared.MakeAnswer.the-variants as make-case
 use Rattle.rules.specs.Refusals.{Judged, gives, refuses, refusal}
-use Rattle.rules.specs.Tasks.{all-jobs, GoodSet}
-use Rattle.rules.specs.Marks.{SL, EN, size}
-use Rattle.rules.specs.Image.{image, records, record-of, set-records, of-entry, timetable-image}
+use Rattle.rules.specs.Tasks.{Set, all-jobs, hyperperiod, memory-set}
+use Rattle.rules.specs.Marks.{SL, EN, size, head-length-of, head-count-of}
+use Rattle.rules.specs.Image.{image, records, record-of, head-records, of-entry, timetable-image, head-count}
 use Rattle.rules.specs.Operations.{rebuilt, rebuilt-image, make-answer, output-after, into, rebuild, rebuild-output, Rebuilds}
-use Rattle.rules.proofs.GoodSets.{good-set}
+use Rattle.rules.proofs.GoodSets.{set-good}
 use Rattle.rules.proofs.ValidTimetables.{no-fault-valid, valid-length}
 use Rattle.rules.proofs.Images.{records-length, timetable-image-length}
-use Rattle.rules.proofs.AcceptedTables.{no-faults, its-tables}
+use Rattle.rules.proofs.AcceptedTables.{its-tables}
+use Rattle.rules.proofs.Arrays.{memory-many}
+use Rattle.sets.specs.Kept.{Rows, all-jobs-in, hyperperiod-in, Keeps}
 use Rattle.tables.specs.declared.Tables.{Tables as Judgement}
 use Rattle.tables.specs.Judged.{Good}
-use Rattle.replay.specs.Releases.{tasks-of}
-use Rattle.writing.specs.Writing.{put-at, record-put, behind-tasks}
+use Rattle.writing.specs.Writing.{put-at, record-put}
 use Rattle.writing.proofs.ImagePut.{image-put}
 use Rattle.rebuilding.specs.Rebuilt.{TimetableBehind, entries-bytes, entries-put}
 
@@ -35,37 +34,36 @@ unfolding rebuild rebuild-output
 refused-so bytes old r e = record { answer = rw e; output = rw e }
 
 -- behind the tables of an image that is not refused there is a timetable
-pub behind-good : {bytes : List ℕ} {t : Judgement} (g : Good bytes t) → TimetableBehind bytes (t .set) (t .hyperperiod) (t .first) (g .entries)
-behind-good g = record { tables = g .tables; few = g .few; read = g .read; judged = g .judged; cycle = g .cycle; offsets = g .offsets }
+pub behind-good : {bytes : List ℕ} {t : Judgement} {kept : Rows} (g : Good bytes t kept) → TimetableBehind bytes (t .set) (t .first) (g .entries)
+behind-good g = record { tables = g .tables; few = g .few; read = g .read; judged = g .judged; offsets = g .offsets }
 
 -- the bytes of entries are as long as so many SL records
 pub entries-length : (τ : List Entry) → length (entries-bytes τ) ≡ length τ * size SL
 entries-length τ = records-length SL (map of-entry τ) ∙ ap (λ (n : ℕ). n * size SL) (length-map τ of-entry)
 
-module _ (bytes : List ℕ) (s : TaskSet) (h : ℕ) (first-at : Offsets) (τ : List Entry) (g : TimetableBehind bytes s h first-at τ) where
-  abbrev ts : List Task
-  ts = tasks-of s
+module _ (bytes : List ℕ) (s : TaskSet) (first-at : Offsets) (τ : List Entry) (g : TimetableBehind bytes s first-at τ) where
+  abbrev ts : Set
+  ts = memory-set s
 
   -- the timetable has as many entries as a cycle has jobs
-  pub as-many-entries : length τ ≡ all-jobs h ts
-  as-many-entries =
-      valid-length (no-fault-valid ts τ .0 (its-tables ts (g .tables) τ (g .judged) .0)) ∙ ap (λ (k : ℕ). all-jobs k ts) (sym (g .cycle))
+  pub as-many-entries : length τ ≡ all-jobs (hyperperiod ts) ts
+  as-many-entries = valid-length (no-fault-valid ts τ .0 (its-tables ts (g .tables) τ (g .judged) .0))
 
-  -- the set is good
-  pub set-is-good : GoodSet ts h
-  set-is-good = rw (g .cycle) (good-set ts (no-faults ts (g .tables) τ (g .judged) .0))
+  -- so many jobs are kept
+  pub jobs-kept : {kept : Rows} → Keeps ts kept → all-jobs-in kept ≡ all-jobs (hyperperiod ts) ts
+  jobs-kept {kept} k = k .all-there ∙ ap (λ (h : ℕ). all-jobs h ts) (set-good ts (hyperperiod-in kept) (k .good) .1)
 
   -- its image is given, where there is room
   image-given : (room : ℕ) → rebuilt-image room bytes ≡ into room (timetable-image ts τ)
   image-given room = rw (g .read, g .judged)
 
-  module _ (slots : length (s .tasks) ≡ 16) (starts : ℕ) (starts-are : starts ≡ all-jobs h ts) where
-    tasks-many : length ts ≡ s .n
-    tasks-many = length-take-le (s .n) (s .tasks) (omega (arith, g .few))
+  module _ (slots : length (s .tasks) ≡ 16) (starts : ℕ) (starts-are : starts ≡ all-jobs (hyperperiod ts) ts) where
+    tasks-many : length (ts .tasks) ≡ s .n
+    tasks-many = memory-many s (omega (arith, g .few))
 
     -- how long the image of the timetable is
     abbrev long : ℕ
-    long = behind-tasks (s .n) + starts * size SL + size EN
+    long = head-length-of (s .n) + starts * size SL + size EN
 
     image-long : length (timetable-image ts τ) ≡ long
     image-long = timetable-image-length ts τ ∙ omega (arith, tasks-many, as-many-entries)
@@ -90,17 +88,17 @@ module _ (bytes : List ℕ) (s : TaskSet) (h : ℕ) (first-at : Offsets) (τ : L
 
       -- and the set, the entries and EN put one behind the other are the image at the front of the output, with all other bytes as they were
       pub put-out : (set-put entries-in end-put : List ℕ) (end before : ℕ) →
-          set-put ≡ put-at old 0 (image (set-records 1 ts)) →
+          set-put ≡ put-at old 0 (image (head-records 1 ts)) →
           entries-in ≡ entries-put set-put (s .n) τ →
           end-put ≡ record-put entries-in end (record-of EN (before ∷ [])) →
-          end + size EN ≡ n → before ≡ s .n + 1 + starts → end-put ≡ rebuild-output bytes old
+          end + size EN ≡ n → before ≡ head-count-of (s .n) + starts → end-put ≡ rebuild-output bytes old
       unfolding rebuild-output
       put-out set-put entries-in end-put end before first-put second third end-is before-is =
-          let here : end ≡ behind-tasks (length ts) + length (entries-bytes τ) =
+          let here : end ≡ head-length-of (length (ts .tasks)) + length (entries-bytes τ) =
           omega (arith, tasks-many, as-many-entries, entries-length τ) in
-          let number : before ≡ suc (length ts + length τ) = omega (arith, tasks-many, as-many-entries) in
-          let behind : entries-in ≡ entries-put (put-at old 0 (image (set-records 1 ts))) (length ts) τ =
+          let number : before ≡ head-count ts + length τ = omega (arith, tasks-many, as-many-entries) in
+          let behind : entries-in ≡ entries-put (put-at old 0 (image (head-records 1 ts))) (length (ts .tasks)) τ =
           second ∙ ap₂ (λ (o : List ℕ) (k : ℕ). entries-put o k τ) first-put (sym tasks-many) in
           third
-          ∙ rw (here, number, behind) (image-put 1 ts (records SL (map of-entry τ)) (suc (length ts + length τ)) old (omega (arith, image-long)))
+          ∙ rw (here, number, behind) (image-put 1 ts (records SL (map of-entry τ)) (head-count ts + length τ) old (omega (arith, image-long)))
           ∙ sym (ap (λ (z : Judged (List ℕ)). output-after z old) given)

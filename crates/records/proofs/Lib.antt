@@ -1,5 +1,3 @@
-pub mod Arrays
-pub mod SetKept
 pub mod OwnRules
 pub mod RecordsRead
 pub mod RecordsJudged

@@ -9,31 +9,31 @@ use native.Mathlib.Nat.{zero-add}
 use lib.Dec.{ltb}
 use lib.ListN.{length, replicate, length-append, length-replicate}
 use borrow.Author.Tests.{lt-ltb, le-ltb, ltb-true}
-use Rattle.rules.specs.declared.Task.{Task}
 use Rattle.rules.specs.declared.Inversion.{Inversion}
 use Rattle.rules.specs.declared.Offsets.{Offsets}
-use Rattle.rules.specs.Tasks.{limits}
+use Rattle.rules.specs.Tasks.{Set, limits}
 use Rattle.rules.specs.Setting.{Tables}
 use Rattle.rules.specs.Priority.{slot}
-use Rattle.rules.specs.Marks.{PV, size}
+use Rattle.rules.specs.Marks.{PV, size, head-length-of}
 use Rattle.rules.specs.Judging.{inversion-in-range, records-fault}
 use Rattle.rules.specs.Offsets.{lower-before, inversion-offset, inversion-offsets, first-offsets}
 use Rattle.rules.proofs.Cases.{by-le, both-true}
 use Rattle.rules.proofs.Derived.{Every}
 use Rattle.rules.proofs.Records.{records-keep}
 use Rattle.rules.proofs.ShownAt.{slot-first}
-use Rattle.records.specs.Tables.{records-offset, inversions-offset, inversion-in, inversions-at, tables-at, TasksBelow, Filled}
-use Rattle.records.proofs.Arrays.{same-slots, zeros-behind}
+use Rattle.records.specs.Tables.{inversions-offset, inversion-in, inversions-at, tables-at, TasksBelow}
+use Rattle.sets.specs.Kept.{Filled}
+use Rattle.sets.proofs.Arrays.{same-slots, zeros-behind}
 use Rattle.records.proofs.RecordsRead.{idles-length, inversions-more, no-inversions}
 
 -- PV records in their range are of tasks of the set
-in-range-below : (ts : List Task) (h : ℕ) (p : List Inversion) → Every (inversion-in-range ts h) p → TasksBelow (length ts) p
+in-range-below : (ts : Set) (h : ℕ) (p : List Inversion) → Every (inversion-in-range ts h) p → TasksBelow (length (ts .tasks)) p
 in-range-below ts h [] e = tt
 in-range-below ts h (r ∷ p) e =
-    (ltb-true (r .task) (length ts) (both-true (ltb (r .task) (length ts)) _ (e .0) .0), in-range-below ts h p (e .1))
+    (ltb-true (r .task) (length (ts .tasks)) (both-true (ltb (r .task) (length (ts .tasks))) _ (e .0) .0), in-range-below ts h p (e .1))
 
 -- and so are those of tables without a fault in their records
-pub tasks-below : (ts : List Task) (h : ℕ) (X : Tables) → records-fault ts h X ≡ none → TasksBelow (length ts) (X .inversions)
+pub tasks-below : (ts : Set) (h : ℕ) (X : Tables) → records-fault ts h X ≡ none → TasksBelow (length (ts .tasks)) (X .inversions)
 tasks-below ts h X e = in-range-below ts h (X .inversions) (records-keep ts h X e .in-range)
 
 -- record k of those from an offset on
@@ -70,7 +70,7 @@ lower-found bytes i at (suc many) (suc j) l lower higher =
     (λ m. rw (e j) at (higher (omega arith)))))
 
 -- as many offsets as tasks
-pub offsets-length : (ts : List Task) (X : Tables) (i many : ℕ) → length (inversion-offsets ts X i many) ≡ many
+pub offsets-length : (ts : Set) (X : Tables) (i many : ℕ) → length (inversion-offsets ts X i many) ≡ many
 offsets-length ts X i zero = refl
 offsets-length ts X i (suc many) = ap suc (offsets-length ts X (suc i) many)
 
@@ -155,7 +155,7 @@ module _ {bytes : List ℕ} {n idles inversions : ℕ} {offsets : List ℕ} {fil
 
   -- at the end all tasks get EN's
   module _ (ended : inversions ≤ j) (few : n ≤ limits .tasks) (after : List ℕ) (f : Filled offsets (λ (i : ℕ). at) filled n after)
-      (ts : List Task) (counted : length ts ≡ n) where
+      (ts : Set) (counted : length (ts .tasks) ≡ n) where
     -- the tables that stand in the image
     abbrev X : Tables
     X = tables-at bytes n idles inversions
@@ -164,25 +164,25 @@ module _ {bytes : List ℕ} {n idles inversions : ℕ} {offsets : List ℕ} {fil
     slot-told : (i : ℕ) → i < n → slot after i ≡ slot (first-offsets ts X .inversions) i
     slot-told i l =
         let same : told-offset bytes n idles inversions i ≡ inversion-offset ts X i =
-        rw (counted, idles-length bytes (records-offset n) idles) refl in
+        rw (counted, idles-length bytes (head-length-of n) idles) refl in
         told-more n after f (λ p. absurd (omega arith)) i l
         ∙ same
         ∙ ap (inversion-offset ts X) (sym (zero-add i))
-        ∙ sym (slot-first ts X 0 (length ts) i (replicate (limits .tasks - length ts) 0) (omega arith))
+        ∙ sym (slot-first ts X 0 (length (ts .tasks)) i (replicate (limits .tasks - length (ts .tasks)) 0) (omega arith))
 
     -- the others have 0
     slot-other : (i : ℕ) → n ≤ i → slot after i ≡ slot (first-offsets ts X .inversions) i
     slot-other i l =
         f .above i l
         ∙ b .others i (omega (arith, b .few-filled))
-        ∙ sym (zeros-behind (inversion-offsets ts X 0 (length ts)) (limits .tasks - length ts) i (omega (arith, offsets-length ts X 0 (length ts))))
+        ∙ sym (zeros-behind (inversion-offsets ts X 0 (length (ts .tasks))) (limits .tasks - length (ts .tasks)) i (omega (arith, offsets-length ts X 0 (length (ts .tasks)))))
 
     -- as many slots
     slots-told : length after ≡ length (first-offsets ts X .inversions)
     slots-told = f .slots ∙ b .slots ∙ simp (length-append, length-replicate, offsets-length) (omega arith)
 
     -- and the result is the rule book's
-    pub told-all : (idle : ℕ) → idle ≡ records-offset n → _≡_ {A = Offsets} (record { idle = idle; inversions = after }) (first-offsets ts X)
+    pub told-all : (idle : ℕ) → idle ≡ head-length-of n → _≡_ {A = Offsets} (record { idle = idle; inversions = after }) (first-offsets ts X)
     told-all idle e =
-        ap₂ (λ (a : ℕ) (x : List ℕ). record { idle = a; inversions = x }) (e ∙ ap (λ (k : ℕ). records-offset k) (sym counted))
+        ap₂ (λ (a : ℕ) (x : List ℕ). record { idle = a; inversions = x }) (e ∙ ap (λ (k : ℕ). head-length-of k) (sym counted))
         (same-slots after (first-offsets ts X .inversions) slots-told (λ i l. by-le n i (slot-other i) (slot-told i)))

@@ -6,12 +6,12 @@ use native.Mathlib.Omega.{arith}
 use lib.ListN.{length, drop, length-map}
 use lib.Seq.{drop-drop}
 use Rattle.rules.specs.declared.Layout.{Layout}
-use Rattle.rules.specs.Marks.{ID, PV, size}
+use Rattle.rules.specs.Marks.{ID, PV, size, head-length-of}
 use Rattle.rules.specs.Image.{to-idle, to-inversion}
 use Rattle.rules.specs.Framing.{read, behind, behind-tasks, tables-in}
 use Rattle.rules.proofs.Arrays.{read-length}
 use Rattle.rules.proofs.Held.{behind-drop, behind-tasks-drop}
-use Rattle.records.specs.Tables.{records-offset, inversions-offset, idle-in, inversion-in, idles-at, inversions-at, tables-at}
+use Rattle.records.specs.Tables.{inversions-offset, idle-in, inversion-in, idles-at, inversions-at, tables-at}
 
 module _ (bytes : List ℕ) (at many : ℕ) where
   -- so many ID records are read
@@ -68,6 +68,6 @@ tables-framed l bytes =
     let behind-idles : behind ID (l .listed) (behind-tasks l bytes) ≡ drop (inversions-offset (l .tasks) (l .listed)) bytes =
     behind-drop ID (l .listed) (behind-tasks l bytes)
     ∙ ap (drop (l .listed * size ID)) (behind-tasks-drop l bytes)
-    ∙ drop-drop (l .listed * size ID) (records-offset (l .tasks)) bytes in
+    ∙ drop-drop (l .listed * size ID) (head-length-of (l .tasks)) bytes in
     ap₂ (λ (a b : List ℕ). record { idles = map to-idle (read ID (l .listed) a); inversions = map to-inversion (read PV (l .inversions) b) })
     (behind-tasks-drop l bytes) behind-idles

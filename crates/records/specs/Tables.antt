@@ -1,5 +1,4 @@
 -- The ID and PV records of a table image, read where they stand: behind TS and n tasks, one behind the other. Assumes nothing.
-use mathlib.Core.Path.{_≡_}
 use mathlib.Core.List.{List, [], _∷_, map}
 use Prim.Native.Nat.{ℕ, _+_, _*_, _≤_, _<_}
 use lib.ListN.{length, drop}
@@ -7,19 +6,14 @@ use Rattle.rules.specs.declared.Idle.{Idle}
 use Rattle.rules.specs.declared.Inversion.{Inversion}
 use Rattle.rules.specs.Tasks.{limits}
 use Rattle.rules.specs.Setting.{Tables}
-use Rattle.rules.specs.Priority.{slot}
-use Rattle.rules.specs.Marks.{TS, TK, ID, PV, EN, size, values}
+use Rattle.rules.specs.Marks.{TS, ID, PV, EN, size, values, head-length-of}
 use Rattle.rules.specs.Image.{to-idle, to-inversion}
 use Rattle.rules.specs.Framing.{read}
 use Rattle.rules.specs.Offsets.{last-offset}
 
--- the byte offset of the first record behind the tasks
-abbrev pub records-offset : ℕ → ℕ
-records-offset n = size TS + n * size TK
-
--- that of the first PV, behind the ID records
+-- the byte offset of the first PV, behind the head and the ID records
 abbrev pub inversions-offset : ℕ → ℕ → ℕ
-inversions-offset n idles = records-offset n + idles * size ID
+inversions-offset n idles = head-length-of n + idles * size ID
 
 -- and that of EN, behind all records
 abbrev pub end-offset : ℕ → ℕ → ℕ → ℕ
@@ -44,7 +38,7 @@ inversions-at bytes at many = map to-inversion (read PV many (drop at bytes))
 -- the tables of an image with so many tasks, ID and PV records
 abbrev pub tables-at : List ℕ → ℕ → ℕ → ℕ → Tables
 tables-at bytes n idles inversions = record {
-  idles = idles-at bytes (records-offset n) idles;
+  idles = idles-at bytes (head-length-of n) idles;
   inversions = inversions-at bytes (inversions-offset n idles) inversions;
 }
 
@@ -59,10 +53,3 @@ pub record HasOffsets (bytes : List ℕ) (n idles inversions : ℕ) : Type 0 whe
   pub stand : end-offset n idles inversions ≤ length bytes
   pub short : end-offset n idles inversions + size EN ≤ last-offset
   pub tasks : TasksBelow n (inversions-at bytes (inversions-offset n idles) inversions)
-
--- slots from one place to below another hold a value, the others what they held before
-pub record Filled (before : List ℕ) (value : ℕ → ℕ) (from to : ℕ) (now : List ℕ) : Type 0 where
-  pub slots : length now ≡ length before
-  pub inside : (i : ℕ) → from ≤ i → i < to → slot now i ≡ value i
-  pub below : (i : ℕ) → i < from → slot now i ≡ slot before i
-  pub above : (i : ℕ) → to ≤ i → slot now i ≡ slot before i

@@ -8,7 +8,7 @@ use Prim.Native.Nat.{ℕ, zero, suc, _+_, _-_, min, _≤_, _<_}
 use native.Mathlib.Omega.{arith}
 use lib.Dec.{eqb}
 use lib.Seq.{append-snoc}
-use lib.ListN.{length, getD, set, length-append, length-map, List·getD-map}
+use lib.ListN.{length, getD, set, replicate, length-append, length-map, length-take}
 use borrow.Author.Tests.{lt-ltb, le-ltb, eq-eqb, ne-eqb}
 use Rattle.fields.specs.Number.{Bytes}
 use Rattle.rules.specs.declared.Task.{Task}
@@ -17,17 +17,17 @@ use Rattle.rules.specs.declared.Entry.{Entry}
 use Rattle.rules.specs.declared.Idle.{Idle}
 use Rattle.rules.specs.declared.Offsets.{Offsets as OffsetsOf}
 use Rattle.rules.specs.Refusals.{refuses, refusal}
-use Rattle.rules.specs.Tasks.{limits, task, release, all-jobs, hyperperiod, set-fault}
+use Rattle.rules.specs.Tasks.{Set, limits, task, release, all-jobs, hyperperiod, set-fault, memory-set}
 use Rattle.rules.specs.Setting.{Tables}
-use Rattle.rules.specs.Priority.{slot, start-job, all-started, by-priority, setting}
+use Rattle.rules.specs.Priority.{slot, start-job, all-started, setting}
 use Rattle.rules.specs.Irregularities.{runs}
 use Rattle.rules.specs.Judging.{judge-tables}
 use Rattle.rules.specs.Offsets.{last-offset, Source, lent, past-own, standing, next-is, next-start}
-use Rattle.rules.specs.Dispatcher.{zero-task, zeros}
+use Rattle.rules.specs.Dispatcher.{zeros}
 use Rattle.rules.proofs.Cases.{by-bool, by-eq, by-le, clash}
-use Rattle.rules.proofs.Arrays.{slot-element, task-in-slot}
+use Rattle.rules.proofs.Arrays.{slot-element}
 use Rattle.rules.proofs.GoodSets.{a-job}
-use Rattle.rules.proofs.PriorityLaws.{slot-empty}
+use Rattle.rules.proofs.PriorityLaws.{slot-empty, never-waits}
 use Rattle.rules.proofs.Images.{records-before}
 use Rattle.rules.proofs.Shown.{ShowsIdles, no-idle, an-idle}
 use Rattle.rules.proofs.ShownAt.{Stand}
@@ -35,25 +35,30 @@ use Rattle.rules.proofs.StandingTables.{read-stand}
 use Rattle.rules.proofs.StuckStarts.{by-next}
 use Rattle.rules.proofs.OffsetReplay.{ReplaysAt, zeros-same}
 use Rattle.rules.proofs.WastedRecords.{Wastes, wastes-begin, start-wastes, start-inverts, start-without, judged-late}
+use Rattle.rules.proofs.KeptOffsets.{Keeps, keeps-begin, keeps-along}
 use Rattle.decision.specs.declared.Found.{Found}
 use Rattle.decision.specs.declared.NextStart.{NextStart as Answer}
 use Rattle.decision.specs.declared.NextStart.the-variants.{Starts, Stuck}
-use Rattle.decision.specs.Next.{inverts, next-case, next-of, IdlesRead, none-left, one-more, AllRead}
-use Rattle.replay.specs.Releases.{tasks-of}
-use Rattle.replay.specs.Runs.{wasted-after, Point, Ends, as-entry, start-first, answer-at, behind, ends-of, AllReadIn, CanRun, CanReplay, first-releases, times-of, periods-of, cycle-start, cycle-of}
+use Rattle.sets.specs.Kept.{Rows, tasks-in, all-jobs-in}
+use Rattle.sets.proofs.SetKept.{in-slot}
+use Rattle.decision.specs.Fits.{free-in, idle-offset-in, next-in, offsets-in}
+use Rattle.decision.specs.Next.{inverts, next-case, next-of, next-at, IdlesRead, none-left, one-more, AllRead}
+use Rattle.decision.proofs.Fitting.{set-hyperperiod}
+use Rattle.replay.specs.Runs.{wasted-after, Ends, as-entry, start-first, wasted-by, behind, ends-of, AllReadIn, run-from, CanRun, CanReplay, first-releases, cycle-start, cycle-of}
 use Rattle.replay.proofs.Stores.{start-stores}
 use Rattle.replay.proofs.Running.{ends-stuck, ends-last, ends-more}
-use Rattle.replay.proofs.Walk.{WalkAt, WalkGoesOn, walk-begins, walk-cycle, walk-all, walk-left, walk-readable, walk-starts}
+use Rattle.replay.proofs.Walk.{WalkAt, WalkGoesOn, walk-begins, walk-all, walk-left, walk-readable, walk-starts}
 
 -- where a run that found all starts of a cycle ended: next job numbers, free instant and tasks' offsets; replay of the tables stands there after
 -- these starts, with these records wasted, and all jobs have started
-pub record CycleDone (bytes : List ℕ) (ts : List Task) (X : Tables) (σ : List Entry) (idle wasted : ℕ) : Type 0 where
+pub record CycleDone (bytes : List ℕ) (ts : Set) (X : Tables) (σ : List Entry) (idle wasted : ℕ) : Type 0 where
   pub next : List ℕ
   pub free : ℕ
   pub offsets : List ℕ
   pub replays : ReplaysAt bytes ts X σ next free offsets idle
+  pub keeps : Keeps ts X σ next free idle idle
   pub wastes : Wastes ts X σ next wasted
-  pub all : all-started (hyperperiod ts) ts next ≡ true
+  pub all : all-started (hyperperiod ts) (ts .tasks) next ≡ true
 
 -- idle records that are shown, one behind the other, can be read
 idles-come : {S : Source} {o : ℕ} {idles : List Idle} → ShowsIdles S o idles → IdlesRead S o
@@ -83,9 +88,9 @@ wasted-falls wasted offset behind n =
     (by-le wasted offset (λ l. rw (le-ltb offset wasted l) (omega arith)) (λ l. rw (lt-ltb offset wasted l) (omega arith)))
 
 -- the tables of a good set stand in the image, and replay stands after some starts with a job left
-module _ {bytes : List ℕ} {ts : List Task} {X : Tables} {before : ℕ} (st : Stand bytes ts X before) (good : set-fault ts ≡ none) {σ : List Entry}
+module _ {bytes : List ℕ} {ts : Set} {X : Tables} {before : ℕ} (st : Stand bytes ts X before) (good : set-fault ts ≡ none) {σ : List Entry}
     {next : List ℕ} {free : ℕ} {offsets : List ℕ} {idle wasted : ℕ} (R : ReplaysAt bytes ts X σ next free offsets idle) (W : Wastes ts X σ next wasted)
-    (left : all-started (hyperperiod ts) ts next ≡ false) where
+    (left : all-started (hyperperiod ts) (ts .tasks) next ≡ false) where
   -- a task's own offset behind its start
   abbrev own-end : ℕ → ℕ
   own-end i = past-own (lent bytes ts .inversion-shown (slot offsets i)) i (slot next i) (slot offsets i)
@@ -97,7 +102,7 @@ module _ {bytes : List ℕ} {ts : List Task} {X : Tables} {before : ℕ} (st : S
   found-wastes i t o q =
       by-eq (own-end i) (slot offsets i)
       (λ u. rw (wasted-stays wasted (slot offsets i) (own-end i) (inverts ts next t i) u) (start-without st good R W left i t o q u))
-      (λ u. by-bool (runs (by-priority ts (hyperperiod ts) next t) i)
+      (λ u. by-bool (runs (setting ts .baseline next t) i)
       (λ b. rw (b, wasted-falls wasted (slot offsets i) (own-end i) u) (start-wastes st good R W left i t o q u b))
       (λ b. rw (b, wasted-kept wasted (slot offsets i) (own-end i)) (start-inverts st good R W left i t o q b)))
 
@@ -112,6 +117,17 @@ module _ {bytes : List ℕ} {ts : List Task} {X : Tables} {before : ℕ} (st : S
       rw same (found-wastes i t o q))
       (λ m q. let other : Stuck m ≡ Starts f = rw q at e in clash (cc))
 
+  -- the IDs used are the derived ones: the baseline never waits
+  keeps-on : Keeps ts X σ next free idle idle → (f : Found) → next-of ts bytes next free offsets idle ≡ Starts f →
+      Keeps ts X (σ ++ (as-entry f ∷ [])) (start-job next (f .task)) (f .start + task ts (f .task) .time) (f .idle) (f .idle)
+  keeps-on K f e =
+      by-next (next-start (setting ts) (lent bytes ts) (standing next free offsets idle))
+      (λ i t o q.
+      let is : next-case ts bytes next offsets (next-is i t o) ≡ Starts f = rw q at e in
+      let same : f ≡ record { task = i; start = t; idle = o; inversion = own-end i; inverts = inverts ts next t i } = cc in
+      rw same (keeps-along st good R K left i t o q (never-waits ts (hyperperiod ts)) refl))
+      (λ m q. let other : Stuck m ≡ Starts f = rw q at e in clash (cc))
+
   -- a stuck answer: 18 at the number of starts
   late-here : (number : ℕ) → next-of ts bytes next free offsets idle ≡ Stuck number → judge-tables ts X ≡ refuses (refusal 18 (length σ))
   late-here number e =
@@ -119,18 +135,19 @@ module _ {bytes : List ℕ} {ts : List Task} {X : Tables} {before : ℕ} (st : S
       (λ i t o q. let other : next-case ts bytes next offsets (next-is i t o) ≡ Stuck number = rw q at e in clash (cc))
       (λ m q. judged-late st good R left m q)
 
--- a point of a run after some starts: the walk stands there, with these records wasted
-record PointAt (bytes : List ℕ) (ts : List Task) (X : Tables) (h n : ℕ) (many slack : List ℕ) (σ : List Entry) (p : Point) : Type 0 where
-  walk : WalkAt bytes ts X h n many slack σ (p .next) (p .releases) (p .free) (p .idle) (p .offsets)
-  wastes : Wastes ts X σ (p .next) (p .wasted)
+-- where a run stands after some starts: the walk stands there, with these records wasted
+record PointAt (bytes : List ℕ) (ts : Set) (X : Tables) (kept : Rows) (σ : List Entry) (at : Rows) (wasted : ℕ) : Type 0 where
+  walk : WalkAt bytes ts X kept σ at
+  keeps : Keeps ts X σ (next-in at) (free-in at) (idle-offset-in at) (idle-offset-in at)
+  wastes : Wastes ts X σ (next-in at) wasted
 
 -- what a run behind some starts comes to, with as many starts as jobs are left: the tables are refused, or all jobs have started
-record EndsSo (bytes : List ℕ) (ts : List Task) (X : Tables) (σ : List Entry) (e : Ends) : Type 0 where
+record EndsSo (bytes : List ℕ) (ts : Set) (X : Tables) (σ : List Entry) (e : Ends) : Type 0 where
   stuck : (number : ℕ) → e .last ≡ Stuck number → judge-tables ts X ≡ refuses (refusal 18 (length (σ ++ e .entries)))
   done : (f : Found) → e .last ≡ Starts f → CycleDone bytes ts X (σ ++ e .entries) (f .idle) (e .wasted)
 
 -- such an end, by its last answer
-module _ {bytes : List ℕ} {ts : List Task} {X : Tables} {σ : List Entry} where
+module _ {bytes : List ℕ} {ts : Set} {X : Tables} {σ : List Entry} where
   -- stuck at once
   stuck-so : (wasted number : ℕ) → judge-tables ts X ≡ refuses (refusal 18 (length σ)) →
       EndsSo bytes ts X σ (record { entries = []; wasted = wasted; last = Stuck number })
@@ -148,185 +165,166 @@ module _ {bytes : List ℕ} {ts : List Task} {X : Tables} {σ : List Entry} wher
     done = λ g l. rw (← append-snoc σ (as-entry f) (e .entries)) (so .done g l);
   }
 
--- the arrays that the run through a cycle begins with, and the number of its starts
-pub record CycleFilled (s : TaskSet) (h : ℕ) (times periods releases : List ℕ) (all : ℕ) : Type 0 where
-  pub times-are : times ≡ times-of s
-  pub periods-are : periods ≡ periods-of s
-  pub releases-are : releases ≡ first-releases s
-  pub all-are : all ≡ all-jobs h (tasks-of s)
-
--- the run that begins with them is the cycle's
-pub cycle-run : (bytes : List ℕ) (s : TaskSet) (h : ℕ) (first : OffsetsOf) (times periods releases : List ℕ) (all : ℕ) →
-    CycleFilled s h times periods releases all →
-    ends-of (tasks-of s) bytes times periods (all - 1)
-    (record { next = zeros; releases = releases; offsets = first .inversions; free = 0; idle = first .idle; wasted = last-offset })
-    ≡ cycle-of bytes s h first
-cycle-run bytes s h first times periods releases all filled =
-    rw (filled .times-are, filled .periods-are, filled .releases-are, filled .all-are)
-
 -- one start more is counted
 one-entry : (σ : List Entry) (f : Found) → length (σ ++ (as-entry f ∷ [])) ≡ suc (length σ)
 one-entry σ f = omega (arith, length-append σ (as-entry f ∷ []))
 
 -- an image that may be replayed
-module _ {bytes : List ℕ} {s : TaskSet} {h : ℕ} {many slack : List ℕ} {first : OffsetsOf} (are-bytes : Bytes bytes)
-    (slots : length (s .tasks) ≡ limits .tasks) (can : CanReplay bytes s h many slack first) where
-  -- its tasks and its tables
-  abbrev ts : List Task
-  ts = tasks-of s
+module _ {bytes : List ℕ} {s : TaskSet} {kept : Rows} {first : OffsetsOf} (are-bytes : Bytes bytes) (slots : length (s .tasks) ≡ limits .tasks)
+    (can : CanReplay bytes s kept first) where
+  -- its tasks, its tables, and the jobs of its cycle
+  abbrev ts : Set
+  ts = memory-set s
 
   abbrev X : Tables
   X = can .tables
 
+  abbrev all : ℕ
+  all = all-jobs (hyperperiod ts) ts
+
   -- its tables stand in it
-  pub cycle-stand : Stand bytes (tasks-of s) (can .tables) (records-before (tasks-of s) (can .tables))
+  pub cycle-stand : Stand bytes (memory-set s) (can .tables) (records-before (memory-set s) (can .tables))
   cycle-stand = read-stand bytes ts X are-bytes (can .read) (can .good) (can .records-good)
 
-  -- a task's slot in the arrays of times, of periods and of first releases
-  time-in-slot : (i : ℕ) → i < s .n → getD (times-of s) i 0 ≡ task (tasks-of s) i .time
-  time-in-slot i l =
-      List·getD-map (λ (t : Task). t .time) (s .tasks) i zero-task
-      ∙ ap (λ (t : Task). t .time) (sym (task-in-slot (s .tasks) (s .n) i zero-task (omega (arith, can .fits .few)) l))
-
-  period-in-slot : (i : ℕ) → i < s .n → getD (periods-of s) i 0 ≡ task (tasks-of s) i .period
-  period-in-slot i l =
-      List·getD-map (λ (t : Task). t .period) (s .tasks) i zero-task
-      ∙ ap (λ (t : Task). t .period) (sym (task-in-slot (s .tasks) (s .n) i zero-task (omega (arith, can .fits .few)) l))
-
-  release-in-slot : (i : ℕ) → i < s .n → slot (first-releases s) i ≡ release (task (tasks-of s) i) (slot zeros i)
+  -- a task's slot among the first releases
+  release-in-slot : (i : ℕ) → i < tasks-in kept → slot (first-releases s) i ≡ release (task (memory-set s) i) (slot zeros i)
+  unfolding memory-set
   release-in-slot i l =
-      slot-element (first-releases s) i
-      ∙ List·getD-map (λ (t : Task). t .offset) (s .tasks) i zero-task
-      ∙ ap (λ (t : Task). t .offset) (sym (task-in-slot (s .tasks) (s .n) i zero-task (omega (arith, can .fits .few)) l))
+      let counted = length-take (s .n) (s .tasks) in
+      in-slot s (λ (t : Task). t .offset) i (omega (arith, can .keeps .n-tasks)) (omega (arith, can .keeps .n-tasks))
       ∙ rw (zeros-same (suc i) i (omega arith), slot-empty i) (omega arith)
 
-  -- the next start from a point, the point behind it, and a run from there
-  abbrev answer : Point → Answer
-  answer p = answer-at ts bytes (times-of s) (periods-of s) p
-
-  abbrev on : Point → Found → Point
-  on p f = behind ts bytes (times-of s) (periods-of s) p f
-
-  abbrev run : ℕ → Point → Ends
-  run more p = ends-of ts bytes (times-of s) (periods-of s) more p
-
-  -- a point after some starts
-  abbrev At : List Entry → Point → Type 0
-  At σ p = PointAt bytes ts X h (s .n) many slack σ p
+  -- after some starts
+  abbrev At : List Entry → Rows → ℕ → Type 0
+  At σ at wasted = PointAt bytes ts X kept σ at wasted
 
   -- with all starts made, all jobs have started
-  point-done : {σ : List Entry} {p : Point} → At σ p → all-jobs h ts ≤ length σ → CycleDone bytes ts X σ (p .idle) (p .wasted)
-  point-done {p = p} a enough = record {
-    next = p .next;
-    free = p .free;
-    offsets = p .offsets;
+  point-done : {σ : List Entry} {at : Rows} {wasted : ℕ} → At σ at wasted → all ≤ length σ → CycleDone bytes ts X σ (idle-offset-in at) wasted
+  point-done {at = at} a enough = record {
+    next = next-in at;
+    free = free-in at;
+    offsets = offsets-in at;
     replays = a .walk .replays;
+    keeps = a .keeps;
     wastes = a .wastes;
-    all = rw (walk-cycle cycle-stand (a .walk)) at (walk-all cycle-stand (a .walk) enough);
+    all = walk-all cycle-stand (a .walk) enough;
   }
 
-  module _ {σ : List Entry} {p : Point} (a : At σ p) where
+  module _ {σ : List Entry} {at : Rows} {wasted : ℕ} (a : At σ at wasted) where
     -- all offsets can be read
-    point-read : AllRead bytes ts (s .n) (p .offsets) (p .idle)
+    point-read : AllRead bytes ts kept at
     point-read = record { tasks-read = walk-readable cycle-stand (a .walk); idles-read = idles-come (a .walk .replays .idles-shown) }
 
-    module _ (few : length σ < all-jobs h ts) where
+    module _ (few : length σ < all) where
       -- a job is left
-      point-left : all-started (hyperperiod ts) ts (p .next) ≡ false
-      point-left = rw (walk-cycle cycle-stand (a .walk)) at (walk-left cycle-stand (a .walk) few)
+      point-left : all-started (hyperperiod ts) (ts .tasks) (next-in at) ≡ false
+      point-left = walk-left cycle-stand (a .walk) few
 
       -- the next start is stuck: 18 at the number of starts
-      point-stuck : (number : ℕ) → answer p ≡ Stuck number → judge-tables ts X ≡ refuses (refusal 18 (length σ))
+      point-stuck : (number : ℕ) → next-at ts bytes at ≡ Stuck number → judge-tables ts X ≡ refuses (refusal 18 (length σ))
       point-stuck = late-here cycle-stand (can .good) (a .walk .replays) (a .wastes) point-left
 
-      -- the point behind the next start
-      point-on : (f : Found) → answer p ≡ Starts f → At (σ ++ (as-entry f ∷ [])) (on p f)
+      -- behind the next start
+      point-on : (f : Found) → next-at ts bytes at ≡ Starts f → At (σ ++ (as-entry f ∷ [])) (behind ts at f) (wasted-by at wasted f)
       point-on f e =
           let i : ℕ = f .task in
           let w = a .walk in
-          let g : WalkGoesOn bytes ts X h (s .n) many slack σ (p .next) (p .releases) (p .offsets) f =
-          walk-starts cycle-stand w (walk-left cycle-stand w few) f (sym e) in
-          let stored : set (p .next) i (getD (p .next) i 0 + 1) ≡ start-job (p .next) i =
-          start-stores (p .next) i (omega (arith, g .a-task, w .fits .set .few, w .next-slots)) in
+          let g : WalkGoesOn bytes ts X kept σ at f = walk-starts cycle-stand w point-left f e in
+          let stored : set (next-in at) i (getD (next-in at) i 0 + 1) ≡ start-job (next-in at) i =
+          start-stores (next-in at) i (omega (arith, g .a-task, w .fits .set .few, w .slots .next)) in
           record {
-            walk = rw (time-in-slot i (g .a-task), period-in-slot i (g .a-task)) (g .goes-on);
-            wastes = rw (stored, ← slot-element (p .offsets) i) (wastes-on cycle-stand (can .good) (w .replays) (a .wastes) point-left f e);
+            walk = g .goes-on;
+            keeps = rw stored (keeps-on cycle-stand (can .good) (w .replays) (a .wastes) point-left (a .keeps) f e);
+            wastes = rw (stored, ← slot-element (offsets-in at) i) (wastes-on cycle-stand (can .good) (w .replays) (a .wastes) point-left f e);
           }
 
       -- what one start comes to, where one job is left
-      ends-here : all-jobs h ts ≤ suc (length σ) → EndsSo bytes ts X σ (run zero p)
+      ends-here : all ≤ suc (length σ) → EndsSo bytes ts X σ (ends-of ts bytes zero at wasted)
       ends-here last =
-          by-answer (answer p)
-          (λ f q. rw (ends-last ts bytes (times-of s) (periods-of s) p f q)
-          (done-so f (point-done (point-on f q) (omega (arith, one-entry σ f)))))
-          (λ m q. rw (ends-stuck ts bytes (times-of s) (periods-of s) p zero m q) (stuck-so (p .wasted) m (point-stuck m q)))
+          by-answer (next-at ts bytes at)
+          (λ f q. rw (ends-last ts bytes at wasted f q) (done-so f (point-done (point-on f q) (omega (arith, one-entry σ f)))))
+          (λ m q. rw (ends-stuck ts bytes at wasted zero m q) (stuck-so wasted m (point-stuck m q)))
 
       -- and what more come to
-      ends-on : (more : ℕ) → ((f : Found) → answer p ≡ Starts f → EndsSo bytes ts X (σ ++ (as-entry f ∷ [])) (run more (on p f))) →
-          EndsSo bytes ts X σ (run (suc more) p)
+      ends-on : (more : ℕ) →
+          ((f : Found) → next-at ts bytes at ≡ Starts f →
+          EndsSo bytes ts X (σ ++ (as-entry f ∷ [])) (ends-of ts bytes more (behind ts at f) (wasted-by at wasted f))) →
+          EndsSo bytes ts X σ (ends-of ts bytes (suc more) at wasted)
       ends-on more later =
-          by-answer (answer p)
-          (λ f q. rw (ends-more ts bytes (times-of s) (periods-of s) p more f q) (more-so f (run more (on p f)) (later f q)))
-          (λ m q. rw (ends-stuck ts bytes (times-of s) (periods-of s) p (suc more) m q) (stuck-so (p .wasted) m (point-stuck m q)))
+          by-answer (next-at ts bytes at)
+          (λ f q. rw (ends-more ts bytes at wasted more f q)
+          (more-so f (ends-of ts bytes more (behind ts at f) (wasted-by at wasted f)) (later f q)))
+          (λ m q. rw (ends-stuck ts bytes at wasted (suc more) m q) (stuck-so wasted m (point-stuck m q)))
 
   -- with as many starts to come as jobs are left, all offsets can be read at each of these decisions
-  run-read : (more : ℕ) (σ : List Entry) (p : Point) → At σ p → suc more + length σ ≡ all-jobs h ts →
-      AllReadIn ts bytes (times-of s) (periods-of s) (s .n) more p
+  run-read : (more : ℕ) (σ : List Entry) (at : Rows) (wasted : ℕ) → At σ at wasted → suc more + length σ ≡ all → AllReadIn ts bytes kept more at
   unfolding AllReadIn
-  run-read zero σ p a left = point-read a
-  run-read (suc more) σ p a left = (
+  run-read zero σ at wasted a left = point-read a
+  run-read (suc more) σ at wasted a left = (
     point-read a,
-    λ f e. run-read more (σ ++ (as-entry f ∷ [])) (on p f) (point-on a (omega arith) f e) (omega (arith, one-entry σ f)),
+    λ f e.
+        run-read more (σ ++ (as-entry f ∷ [])) (behind ts at f) (wasted-by at wasted f) (point-on a (omega arith) f e) (omega (arith, one-entry σ f)),
   )
 
   -- what the run comes to
-  run-ends : (more : ℕ) (σ : List Entry) (p : Point) → At σ p → suc more + length σ ≡ all-jobs h ts → EndsSo bytes ts X σ (run more p)
-  run-ends zero σ p a left = ends-here a (omega arith) (omega arith)
-  run-ends (suc more) σ p a left =
+  run-ends : (more : ℕ) (σ : List Entry) (at : Rows) (wasted : ℕ) → At σ at wasted → suc more + length σ ≡ all →
+      EndsSo bytes ts X σ (ends-of ts bytes more at wasted)
+  run-ends zero σ at wasted a left = ends-here a (omega arith) (omega arith)
+  run-ends (suc more) σ at wasted a left =
       ends-on a (omega arith) more
-      (λ f q. run-ends more (σ ++ (as-entry f ∷ [])) (on p f) (point-on a (omega arith) f q) (omega (arith, one-entry σ f)))
+      (λ f q.
+      run-ends more (σ ++ (as-entry f ∷ [])) (behind ts at f) (wasted-by at wasted f) (point-on a (omega arith) f q) (omega (arith, one-entry σ f)))
 
-  -- the point at which the cycle begins
-  cycle-begins : At [] (cycle-start s first)
+  -- where the cycle begins
+  cycle-begins : At [] (cycle-start s first) last-offset
   cycle-begins =
       record {
-        walk = subst (λ (o : OffsetsOf). WalkAt bytes ts X h (s .n) many slack [] zeros (first-releases s) 0 (o .idle) (o .inversions))
+        walk = subst
+            (λ (o : OffsetsOf). WalkAt bytes ts X kept [] ((0 ∷ o .idle ∷ replicate 14 0) ∷ zeros ∷ first-releases s ∷ o .inversions ∷ []))
             (sym (can .first-is))
-            (walk-begins cycle-stand (first-releases s) (can .fits) (length-map (s .tasks) (λ (t : Task). t .offset) ∙ slots) release-in-slot);
-        wastes = wastes-begin cycle-stand (can .good) zeros (zeros-same (length ts));
+            (walk-begins cycle-stand (first-releases s) (can .keeps) (length-map (s .tasks) (λ (t : Task). t .offset) ∙ slots) release-in-slot);
+        keeps = subst (λ (o : OffsetsOf). Keeps ts X [] zeros 0 (o .idle) (o .idle)) (sym (can .first-is))
+            (keeps-begin cycle-stand (can .good) zeros (zeros-same (length (ts .tasks))));
+        wastes = wastes-begin cycle-stand (can .good) zeros (zeros-same (length (ts .tasks)));
       }
 
   -- as many starts are to come as it has jobs
-  all-to-come : suc (all-jobs h ts - 1) + 0 ≡ all-jobs h ts
-  all-to-come = omega (arith, a-job (can .fits .good))
+  all-kept : all-jobs-in kept ≡ all
+  all-kept = can .keeps .all-there ∙ ap (λ (h : ℕ). all-jobs h ts) (set-hyperperiod (can .keeps))
 
-  -- all offsets can be read at every decision of the cycle
-  pub cycle-read : AllReadIn (tasks-of s) bytes (times-of s) (periods-of s) (s .n) (all-jobs h (tasks-of s) - 1) (cycle-start s first)
-  cycle-read = run-read (all-jobs h ts - 1) [] (cycle-start s first) cycle-begins all-to-come
+  all-to-come : suc (all - 1) + 0 ≡ all
+  all-to-come = omega (arith, all-kept, can .keeps .all-there, a-job (can .keeps .good))
 
-  -- the run through the cycle can begin, with as many starts as the cycle has jobs
-  pub cycle-can : (times periods releases : List ℕ) (all : ℕ) → CycleFilled s h times periods releases all →
-      CanRun (tasks-of s) bytes true h (s .n) many slack times periods zeros releases 0 (first .idle) (first .inversions) all
-  cycle-can times periods releases all filled = record {
-    fits = rw (filled .releases-are) (cycle-begins .walk .fits);
-    by-end = omega arith;
-    next-slots = λ _. cycle-begins .walk .next-slots;
-    release-slots = λ _. rw (filled .releases-are) (cycle-begins .walk .release-slots);
-    times-kept = λ _. rw (filled .times-are) time-in-slot;
-    periods-kept = λ _. rw (filled .periods-are) period-in-slot;
-    read = λ _. rw (filled .times-are, filled .periods-are, filled .releases-are, filled .all-are) cycle-read;
-  }
+  -- the run through the cycle, with as many starts as are kept, from rows that it begins with
+  module _ {releases : List ℕ} (are-first : releases ≡ first-releases s) where
+    -- these rows
+    abbrev begin : Rows
+    begin = (0 ∷ first .idle ∷ replicate 14 0) ∷ zeros ∷ releases ∷ first .inversions ∷ []
+
+    -- it can begin
+    pub cycle-can : CanRun (memory-set s) bytes true kept begin (all-jobs-in kept)
+    cycle-can =
+        rw are-first
+        (record {
+          fits = cycle-begins .walk .fits;
+          slots = λ _. cycle-begins .walk .slots;
+          read = λ _. rw all-kept (run-read (all - 1) [] (cycle-start s first) last-offset cycle-begins all-to-come);
+        })
+
+    -- it is the cycle's
+    pub cycle-run : run-from (memory-set s) bytes begin (all-jobs-in kept) ≡ cycle-of bytes s first
+    cycle-run = rw (are-first, all-kept) refl
 
   -- what the cycle comes to
-  cycle-ends : EndsSo bytes ts X [] (cycle-of bytes s h first)
-  cycle-ends = run-ends (all-jobs h ts - 1) [] (cycle-start s first) cycle-begins all-to-come
+  cycle-ends : EndsSo bytes ts X [] (cycle-of bytes s first)
+  cycle-ends = run-ends (all - 1) [] (cycle-start s first) last-offset cycle-begins all-to-come
 
   -- a cycle that is stuck: the tables are refused with 18 at the number of starts
-  pub cycle-stuck : (number : ℕ) → cycle-of bytes s h first .last ≡ Stuck number →
-      judge-tables (tasks-of s) (can .tables) ≡ refuses (refusal 18 (length (cycle-of bytes s h first .entries)))
+  pub cycle-stuck : (number : ℕ) → cycle-of bytes s first .last ≡ Stuck number →
+      judge-tables (memory-set s) (can .tables) ≡ refuses (refusal 18 (length (cycle-of bytes s first .entries)))
   cycle-stuck = cycle-ends .stuck
 
   -- a cycle whose last start is found
-  pub cycle-done : (f : Found) → cycle-of bytes s h first .last ≡ Starts f →
-      CycleDone bytes (tasks-of s) (can .tables) (cycle-of bytes s h first .entries) (f .idle) (cycle-of bytes s h first .wasted)
+  pub cycle-done : (f : Found) → cycle-of bytes s first .last ≡ Starts f →
+      CycleDone bytes (memory-set s) (can .tables) (cycle-of bytes s first .entries) (f .idle) (cycle-of bytes s first .wasted)
   cycle-done = cycle-ends .done

@@ -1,5 +1,5 @@
 pub mod Stores
-pub mod NextReleases
+pub mod RowStores
 pub mod Running
 pub mod Walk
 pub mod Cycles

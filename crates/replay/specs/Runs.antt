@@ -1,18 +1,18 @@
--- Starts, one behind the other: where a run stands, what it comes to, and what may be replayed. Assumes nothing.
+-- Starts, one behind the other: where replay stands behind each, what a run of them comes to, and what may be replayed. Assumes nothing.
 use mathlib.Core.Path.{_≡_}
 use mathlib.Core.Bool.{Bool, true}
 use mathlib.Core.List.{List, [], _∷_, map}
 use mathlib.Core.Option.{none}
 use Prim.Native.Nat.{ℕ, zero, suc, _+_, _-_, _≤_, _<_}
 use lib.Dec.{ltb, eqb}
-use lib.ListN.{length, getD, set}
+use lib.ListN.{length, getD, set, drop, replicate}
 use Rattle.rules.specs.declared.Task.{Task}
 use Rattle.rules.specs.declared.TaskSet.{TaskSet}
 use Rattle.rules.specs.declared.Entry.{Entry}
 use Rattle.rules.specs.declared.Offsets.{Offsets as OffsetsOf}
 use Rattle.rules.specs.Refusals.{gives}
 use Rattle.rules.specs.Timetable.{pick}
-use Rattle.rules.specs.Tasks.{limits, task, all-jobs, hyperperiod, set-fault}
+use Rattle.rules.specs.Tasks.{Set, limits, largest-number, task, all-jobs, hyperperiod, set-fault, memory-set}
 use Rattle.rules.specs.Setting.{Tables}
 use Rattle.rules.specs.Judging.{records-fault}
 use Rattle.rules.specs.Marks.{SL, size}
@@ -20,31 +20,20 @@ use Rattle.rules.specs.Image.{record-of, of-entry}
 use Rattle.rules.specs.Offsets.{last-offset, first-offsets}
 use Rattle.rules.specs.Operations.{read-tables}
 use Rattle.rules.specs.Dispatcher.{zeros}
-use Rattle.records.specs.Fits.{SetFits}
+use Rattle.sets.specs.Kept.{Rows, times-in, periods-in, Keeps}
 use Rattle.decision.specs.declared.Found.{Found}
 use Rattle.decision.specs.declared.NextStart.{NextStart as Answer}
 use Rattle.decision.specs.declared.NextStart.the-variants.{Starts, Stuck}
-use Rattle.decision.specs.Fits.{Fits}
-use Rattle.decision.specs.Next.{AllRead, next-of}
+use Rattle.decision.specs.Fits.{instants-in, next-in, releases-in, offsets-in, Fits}
+use Rattle.decision.specs.Next.{next-at, AllRead}
 use Rattle.writing.specs.Writing.{record-put}
 use Rattle.replay.specs.declared.Run.{Run}
-use Rattle.replay.specs.Releases.{tasks-of}
 
 -- the least offset of a PV record that had no effect, after a start from a task's offset to the one behind it
 unfoldable pub wasted-after : ℕ → ℕ → ℕ → Bool → ℕ
 wasted-after wasted offset behind inverts = pick (eqb behind offset) wasted (pick inverts wasted (pick (ltb offset wasted) offset wasted))
 
--- the point that a run has come to: next job numbers, the release of each task's next job, the tasks' offsets, the instant from which the processor is free, the ID
--- offset, and the least offset of a PV record that had no effect
-pub record Point : Type 0 where
-  pub next : List ℕ
-  pub releases : List ℕ
-  pub offsets : List ℕ
-  pub free : ℕ
-  pub idle : ℕ
-  pub wasted : ℕ
-
--- what it comes to: the starts it found, the least offset of a PV record that had no effect, and the last answer, a start or what stopped it
+-- what a run comes to: the starts it found, the least offset of a PV record that had no effect, and the last answer, a start or what stopped it
 pub record Ends : Type 0 where
   pub entries : List Entry
   pub wasted : ℕ
@@ -59,49 +48,58 @@ abbrev pub start-first : Found → Ends → Ends
 start-first f e = record { entries = as-entry f ∷ e .entries; wasted = e .wasted; last = e .last }
 
 -- the least offset of a PV record that had no effect, behind a start
-abbrev pub wasted-by : Point → Found → ℕ
-wasted-by p f = wasted-after (p .wasted) (getD (p .offsets) (f .task) 0) (f .inversion) (f .inverts)
+abbrev pub wasted-by : Rows → ℕ → Found → ℕ
+wasted-by at wasted f = wasted-after wasted (getD (offsets-in at) (f .task) 0) (f .inversion) (f .inverts)
 
--- a run of a set, an image, and each task's time and period
-module _ (ts : List Task) (bytes times periods : List ℕ) where
-  -- the next start from a point
-  abbrev pub answer-at : Point → Answer
-  answer-at p = next-of ts bytes (p .next) (p .free) (p .offsets) (p .idle)
+-- where replay stands behind a start, with the instant from which the processor is free then, and the release of the task's next job
+abbrev pub stepped : Rows → Found → ℕ → ℕ → Rows
+stepped at f free release =
+    (free ∷ f .idle ∷ drop 2 (instants-in at)) ∷ set (next-in at) (f .task) (getD (next-in at) (f .task) 0 + 1)
+    ∷ set (releases-in at) (f .task) release ∷ set (offsets-in at) (f .task) (f .inversion) ∷ []
 
-  -- the point behind a start
-  abbrev pub behind : Point → Found → Point
-  behind p f = record {
-    next = set (p .next) (f .task) (getD (p .next) (f .task) 0 + 1);
-    releases = set (p .releases) (f .task) (getD (p .releases) (f .task) 0 + getD periods (f .task) 0);
-    offsets = set (p .offsets) (f .task) (f .inversion);
-    free = f .start + getD times (f .task) 0;
-    idle = f .idle;
-    wasted = wasted-by p f;
-  }
+-- there are four rows of sixteen slots
+pub record InSlots (at : Rows) : Type 0 where
+  pub rows : length at ≡ 4
+  pub instants : length (instants-in at) ≡ limits .tasks
+  pub next : length (next-in at) ≡ limits .tasks
+  pub releases : length (releases-in at) ≡ limits .tasks
+  pub offsets : length (offsets-in at) ≡ limits .tasks
 
+-- a start may be noted in the rows: they have a slot for its task, and the numbers have 32 bits
+pub record CanStep (kept at : Rows) (f : Found) : Type 0 where
+  pub slots : InSlots at
+  pub in-slots : f .task < limits .tasks
+  pub free : f .start + getD (times-in kept) (f .task) 0 ≤ largest-number
+  pub counts : getD (next-in at) (f .task) 0 + 1 ≤ largest-number
+  pub release : getD (releases-in at) (f .task) 0 + getD (periods-in kept) (f .task) 0 ≤ largest-number
+
+-- where replay stands behind a start of a set's task
+abbrev pub behind : Set → Rows → Found → Rows
+behind ts at f = stepped at f (f .start + task ts (f .task) .time) (getD (releases-in at) (f .task) 0 + task ts (f .task) .period)
+
+-- a run of a set and an image
+module _ (ts : Set) (bytes : List ℕ) where
   -- what a run comes to: a start, and so many behind it, up to the first that is not found
-  unfoldable pub ends-of : ℕ → Point → Ends
-  ends-of zero p =
-      elim (answer-at p) [
-        | Starts f ↦ record { entries = as-entry f ∷ []; wasted = wasted-by p f; last = Starts f }
-        | Stuck number ↦ record { entries = []; wasted = p .wasted; last = Stuck number }
+  unfoldable pub ends-of : ℕ → Rows → ℕ → Ends
+  ends-of zero at wasted =
+      elim (next-at ts bytes at) [
+        | Starts f ↦ record { entries = as-entry f ∷ []; wasted = wasted-by at wasted f; last = Starts f }
+        | Stuck number ↦ record { entries = []; wasted = wasted; last = Stuck number }
       ]
-  ends-of (suc more) p =
-      elim (answer-at p) [
-        | Starts f ↦ start-first f (ends-of more (behind p f))
-        | Stuck number ↦ record { entries = []; wasted = p .wasted; last = Stuck number }
+  ends-of (suc more) at wasted =
+      elim (next-at ts bytes at) [
+        | Starts f ↦ start-first f (ends-of more (behind ts at f) (wasted-by at wasted f))
+        | Stuck number ↦ record { entries = []; wasted = wasted; last = Stuck number }
       ]
 
   -- all offsets can be read at each of these decisions
-  unfoldable pub AllReadIn : ℕ → ℕ → Point → Type 0
-  AllReadIn n zero p = AllRead bytes ts n (p .offsets) (p .idle)
-  AllReadIn n (suc more) p = AllRead bytes ts n (p .offsets) (p .idle) × ((f : Found) → answer-at p ≡ Starts f → AllReadIn n more (behind p f))
+  unfoldable pub AllReadIn : Rows → ℕ → Rows → Type 0
+  AllReadIn kept zero at = AllRead bytes ts kept at
+  AllReadIn kept (suc more) at = AllRead bytes ts kept at × ((f : Found) → next-at ts bytes at ≡ Starts f → AllReadIn kept more (behind ts at f))
 
--- so many starts, and one at least, from next job numbers, releases, a free instant, the ID offset and the tasks' offsets
-abbrev pub run-from : List Task → List ℕ → List ℕ → List ℕ → List ℕ → List ℕ → ℕ → ℕ → List ℕ → ℕ → Ends
-run-from ts bytes times periods next releases free idle offsets wanted =
-    ends-of ts bytes times periods (wanted - 1)
-    (record { next = next; releases = releases; offsets = offsets; free = free; idle = idle; wasted = last-offset })
+-- so many starts, and one at least, from where replay stands
+abbrev pub run-from : Set → List ℕ → Rows → ℕ → Ends
+run-from ts bytes at wanted = ends-of ts bytes (wanted - 1) at last-offset
 
 -- how the code tells it
 abbrev pub run-told : Ends → Run
@@ -117,49 +115,34 @@ pub record Ran (e : Ends) (old : List ℕ) (at : ℕ) (r : Run) (left : List ℕ
   pub told : r ≡ run-told e
   pub output : left ≡ entries-from old at (e .entries)
 
--- where a run is to begin: arrays that fit the set and what has started; for more than one start, these in sixteen slots, and each task's time and
--- period; and, for records that were judged, offsets that can be read
-pub record CanRun (ts : List Task) (bytes : List ℕ) (judged : Bool) (h n : ℕ) (many slack times periods next releases : List ℕ) (free idle : ℕ)
-    (offsets : List ℕ) (wanted : ℕ) : Type 0 where
-  pub fits : Fits ts h n many slack next releases
-  pub by-end : free ≤ h
-  pub next-slots : 1 < wanted → length next ≡ limits .tasks
-  pub release-slots : 1 < wanted → length releases ≡ limits .tasks
-  pub times-kept : 1 < wanted → (i : ℕ) → i < n → getD times i 0 ≡ task ts i .time
-  pub periods-kept : 1 < wanted → (i : ℕ) → i < n → getD periods i 0 ≡ task ts i .period
-  pub read : judged ≡ true → AllReadIn ts bytes times periods n (wanted - 1)
-      (record { next = next; releases = releases; offsets = offsets; free = free; idle = idle; wasted = last-offset })
+-- an output and a place in it, behind an entry that is put where it fits: what is put next comes behind it
+pub record PutsOn (out : List ℕ) (place : ℕ) (out′ : List ℕ) (place′ : ℕ) (f : Found) : Type 0 where
+  pub same-length : length out′ ≡ length out
+  pub on : (τ : List Entry) → entries-from out place (as-entry f ∷ τ) ≡ entries-from out′ place′ τ
+
+-- where a run is to begin: rows that fit the set; for more than one start, in their slots; and, for records that were judged, offsets that can be read
+pub record CanRun (ts : Set) (bytes : List ℕ) (judged : Bool) (kept at : Rows) (wanted : ℕ) : Type 0 where
+  pub fits : Fits ts kept at
+  pub slots : 1 < wanted → InSlots at
+  pub read : judged ≡ true → AllReadIn ts bytes kept (wanted - 1) at
 
 -- tables read from an image, of a good set and with records that keep their rules; what is kept of the set; and the offsets as at a cycle's start
-pub record CanReplay (bytes : List ℕ) (s : TaskSet) (h : ℕ) (many slack : List ℕ) (first : OffsetsOf) : Type 0 where
+pub record CanReplay (bytes : List ℕ) (s : TaskSet) (kept : Rows) (first : OffsetsOf) : Type 0 where
   pub tables : Tables
-  pub read : read-tables bytes ≡ gives (record { tasks = tasks-of s; tables = tables })
-  pub good : set-fault (tasks-of s) ≡ none
-  pub records-good : records-fault (tasks-of s) (hyperperiod (tasks-of s)) tables ≡ none
-  pub fits : SetFits (tasks-of s) h (s .n) many slack
-  pub first-is : first ≡ first-offsets (tasks-of s) tables
+  pub read : read-tables bytes ≡ gives (record { set = memory-set s; tables = tables })
+  pub good : set-fault (memory-set s) ≡ none
+  pub records-good : records-fault (memory-set s) (hyperperiod (memory-set s)) tables ≡ none
+  pub keeps : Keeps (memory-set s) kept
+  pub first-is : first ≡ first-offsets (memory-set s) tables
 
--- the release of each task's job 0, its time and its period, in sixteen slots
+-- the release of each task's job 0, in sixteen slots
 abbrev pub first-releases : TaskSet → List ℕ
 first-releases s = map (λ (t : Task). t .offset) (s .tasks)
 
-abbrev pub times-of : TaskSet → List ℕ
-times-of s = map (λ (t : Task). t .time) (s .tasks)
-
-abbrev pub periods-of : TaskSet → List ℕ
-periods-of s = map (λ (t : Task). t .period) (s .tasks)
-
--- the point at which a cycle begins
-abbrev pub cycle-start : TaskSet → OffsetsOf → Point
-cycle-start s first = record {
-  next = zeros;
-  releases = first-releases s;
-  offsets = first .inversions;
-  free = 0;
-  idle = first .idle;
-  wasted = last-offset;
-}
+-- where replay stands as a cycle begins
+abbrev pub cycle-start : TaskSet → OffsetsOf → Rows
+cycle-start s first = (0 ∷ first .idle ∷ replicate 14 0) ∷ zeros ∷ first-releases s ∷ first .inversions ∷ []
 
 -- the run through the cycle
-abbrev pub cycle-of : List ℕ → TaskSet → ℕ → OffsetsOf → Ends
-cycle-of bytes s h first = ends-of (tasks-of s) bytes (times-of s) (periods-of s) (all-jobs h (tasks-of s) - 1) (cycle-start s first)
+abbrev pub cycle-of : List ℕ → TaskSet → OffsetsOf → Ends
+cycle-of bytes s first = run-from (memory-set s) bytes (cycle-start s first) (all-jobs (hyperperiod (memory-set s)) (memory-set s))

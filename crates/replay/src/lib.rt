@@ -1,69 +1,82 @@
 // Starts, one behind the other: replay through a cycle, for accepting and for rebuilding, and the dispatcher's one start. All of them come to the
-// next start in one place, so that the compiler puts it in line. No heap and no table of jobs; memory beside the arguments is a few arrays of 16.
+// next start in one place, so that the compiler puts it in line. No heap and no table of jobs; memory beside the arguments is a few rows of 16.
+use decision::FREE;
+use decision::Found;
+use decision::IDLE;
+use decision::INSTANTS;
 use decision::LAST_OFFSET;
+use decision::NEXT;
 use decision::NextStart;
-use images::ROWS;
-use images::SL;
+use decision::OFFSETS;
+use decision::RELEASE;
+use images::ENTRY_SIZE;
 use rules::Entry;
 use rules::Offsets;
 use rules::TaskSet;
+use sets::ALL_JOBS;
+use sets::FIGURES;
+use sets::PERIODS;
+use sets::TIMES;
 ghost use mathlib.Core.Path.{_≡_};
 ghost use mathlib.Core.List.{List};
-ghost use Prim.Native.Nat.{_≤_};
-ghost use Rattle.rules.specs.declared.Task.{Task};
-ghost use Rattle.rules.specs.Tasks.{all-jobs};
-ghost use Rattle.rules.specs.Dispatcher.{zeros};
-ghost use Rattle.decision.specs.Fits.{Fits};
+ghost use Prim.Native.Nat.{_+_};
+ghost use Rattle.rules.specs.Tasks.{Set};
+ghost use lib.ListN.{getD};
+ghost use Rattle.sets.specs.Kept.{times-in, periods-in};
+ghost use Rattle.decision.specs.Fits.{releases-in, Fits};
 ghost use Rattle.decision.specs.Next.{FindsNext};
-ghost use Rattle.replay.specs.Releases.{tasks-of, releases-of, ReleasesFit, none-before};
-ghost use Rattle.replay.specs.Runs.{wasted-after, run-from, Ran, CanRun, CanReplay, first-releases, times-of, periods-of, cycle-of};
-
-// The release of the next job of each of n tasks, by their next job numbers; the other slots are 0.
-pub fn releases_of(s: TaskSet, next: &[u32; 16]) -> [u32; 16]
-    requires { ⌜ ReleasesFit s (now next) ⌝ }
-    ensures { λ r. ⌜ r ≡ releases-of s (now (next .entry)) ⌝ }
-{
-    let n = s.n as usize;
-    let mut release = [0u32; 16];
-    let mut i: usize = 0;
-    while i < n {
-        let t = s.tasks[i];
-        release[i] = t.offset + next[i] * t.period;
-        i += 1;
-    }
-    release
-}
-
-// Have all jobs of the cycle started: is no next release before its end?
-pub fn all_started(n: usize, h: u32, release: &[u32; 16]) -> bool
-    requires { ⌜ n ≤ 16 ⌝ }
-    ensures { λ r. ⌜ r ≡ none-before n h (now (release .entry)) ⌝ }
-{
-    let mut i: usize = 0;
-    while i < n {
-        if release[i] < h {
-            return false;
-        }
-        i += 1;
-    }
-    true
-}
+ghost use Rattle.replay.specs.Runs.{wasted-after, stepped, CanStep, PutsOn, run-from, Ran, CanRun, CanReplay, first-releases, cycle-of};
 
 // The least offset of a record that had no effect, after a start from a task's offset to the one behind it: its own record, if that is where the
 // offset was, had none where no lower-numbered task was waiting.
-fn wasted_after(wasted: u32, offset: u32, behind: u32, inverts: bool) -> u32
-    ensures { λ r. ⌜ r ≡ wasted-after wasted offset behind inverts ⌝ }
+fn wasted_after(wasted: u32, offset: u32, f: Found) -> u32
+    ensures { λ r. ⌜ r ≡ wasted-after wasted offset (f .inversion) (f .inverts) ⌝ }
 {
-    if behind == offset {
+    if f.inversion == offset {
         return wasted;
     }
-    if inverts {
+    if f.inverts {
         return wasted;
     }
     if offset < wasted {
         return offset;
     }
     wasted
+}
+
+// A start put into the output as an entry at a place, where that is inside; and the place behind it.
+fn put_start(out: &mut [u8], place: usize, f: Found) -> usize
+    ensures { λ r. ⌜ PutsOn (now (out .entry)) place (now (out .exit)) r f ⌝ }
+{
+    if out.len() <= place {
+        return place;
+    }
+    writing::put_entry(
+        out,
+        place,
+        Entry {
+            task: f.task,
+            start: f.start,
+        },
+    );
+    place + ENTRY_SIZE
+}
+
+// Where replay stands behind a start: the processor is free when it ends, idle records are looked for behind those it used, and its task's next job is the
+// one behind it, from its own offset on.
+fn step(kept: &[[u32; 16]; 5], at: &mut [[u32; 16]; 4], f: Found)
+    requires { ⌜ CanStep (now kept) (now at) f ⌝ }
+    ensures { λ _. ⌜ now (at .exit) ≡ stepped (now (at .entry)) f (f .start + getD (times-in (now (kept .entry))) (f .task) 0)
+        (getD (releases-in (now (at .entry))) (f .task) 0 + getD (periods-in (now (kept .entry))) (f .task) 0) ⌝ }
+{
+    let i = f.task as usize;
+    let job = at[NEXT][i] + 1;
+    let release = at[RELEASE][i] + kept[PERIODS][i];
+    at[INSTANTS][FREE] = f.start + kept[TIMES][i];
+    at[INSTANTS][IDLE] = f.idle;
+    at[NEXT][i] = job;
+    at[RELEASE][i] = release;
+    at[OFFSETS][i] = f.inversion;
 }
 
 // What a run of starts came to: how many it found, the least offset of a PV record that had no effect, and the last answer, a start or what stopped
@@ -74,154 +87,70 @@ pub struct Run {
     pub last: NextStart,
 }
 
-// So many starts, and one at least, from what has started, the instant from which the processor is free, the ID offset and the tasks' offsets, up to
-// the first that is not found. Each is put into the output as an entry, one behind the other from a place on, where it fits. Times and periods are for
-// what follows a start.
+// A run by its parts.
+fn ran(made: usize, wasted: u32, last: NextStart) -> Run
+    ensures { λ r. ⌜ r ≡ record { made = made; wasted = wasted; last = last } ⌝ }
+{
+    Run { made, wasted, last }
+}
+
+// So many starts, and one at least, from where replay stands, up to the first that is not found. Each is put into the output as an entry, one behind the
+// other from a place on, where it fits.
 fn starts(
     image: &[u8],
     judged: bool,
-    n: usize,
-    h: u32,
-    jobs: &[u32; 16],
-    slack: &[u32; 16],
-    times: &[u32; 16],
-    periods: &[u32; 16],
-    next: &[u32; 16],
-    release: &[u32; 16],
-    free: u32,
-    idle: u32,
-    offsets: &[u32; 16],
+    kept: &[[u32; 16]; 5],
+    at: &mut [[u32; 16]; 4],
     wanted: usize,
     out: &mut [u8],
-    at: usize,
+    first: usize,
 ) -> Run
-    requires { ⌜ ((ts : List Task) × CanRun ts (now image) judged h n (now jobs) (now slack) (now times) (now periods) (now next) (now release)
-        free idle (now offsets) wanted) ⌝ }
-    ensures { λ r. ⌜ ((ts : List Task) →
-        CanRun ts (now (image .entry)) judged h n (now (jobs .entry)) (now (slack .entry)) (now (times .entry)) (now (periods .entry))
-        (now (next .entry)) (now (release .entry)) free idle (now (offsets .entry)) wanted →
-        Ran (run-from ts (now (image .entry)) (now (times .entry)) (now (periods .entry)) (now (next .entry)) (now (release .entry))
-        free idle (now (offsets .entry)) wanted) (now (out .entry)) at r (now (out .exit))) ⌝ }
+    requires { ⌜ ((ts : Set) × CanRun ts (now image) judged (now kept) (now at) wanted) ⌝ }
+    ensures { λ r. ⌜ ((ts : Set) → CanRun ts (now (image .entry)) judged (now (kept .entry)) (now (at .entry)) wanted →
+        Ran (run-from ts (now (image .entry)) (now (at .entry)) wanted) (now (out .entry)) first r (now (out .exit))) ⌝ }
 {
-    let mut counts = *next;
-    let mut releases = *release;
-    let mut positions = *offsets;
-    let mut from = free;
-    let mut position = idle;
     let mut wasted = LAST_OFFSET;
-    let mut place = at;
+    let mut place = first;
     let mut made: usize = 0;
     'starts: loop {
-        match decision::next_start(
-            image,
-            judged,
-            n,
-            h,
-            jobs,
-            slack,
-            &counts,
-            &releases,
-            from,
-            position,
-            &positions,
-        ) {
+        match decision::next_start(image, judged, kept, at) {
             NextStart::Stuck(number) => {
-                break 'starts Run {
-                    made,
-                    wasted,
-                    last: NextStart::Stuck(number),
-                };
+                break 'starts ran(made, wasted, NextStart::Stuck(number));
             }
             NextStart::Starts(f) => {
-                let i = f.task as usize;
-                if place < out.len() {
-                    writing::put_entry(
-                        out,
-                        place,
-                        Entry {
-                            task: f.task,
-                            start: f.start,
-                        },
-                    );
-                    place += ROWS[SL].body + 2;
-                }
-                wasted = wasted_after(wasted, positions[i], f.inversion, f.inverts);
+                place = put_start(out, place, f);
+                wasted = wasted_after(wasted, at[OFFSETS][f.task as usize], f);
                 made += 1;
                 if wanted <= made {
-                    break 'starts Run {
-                        made,
-                        wasted,
-                        last: NextStart::Starts(f),
-                    };
+                    break 'starts ran(made, wasted, NextStart::Starts(f));
                 }
-                positions[i] = f.inversion;
-                position = f.idle;
-                counts[i] += 1;
-                releases[i] += periods[i];
-                from = f.start + times[i];
+                step(kept, at, f);
             }
         }
     }
 }
 
 // The next start, for records that nobody has judged.
-pub fn one_start(
-    image: &[u8],
-    n: usize,
-    h: u32,
-    jobs: &[u32; 16],
-    slack: &[u32; 16],
-    next: &[u32; 16],
-    release: &[u32; 16],
-    free: u32,
-    idle: u32,
-    offsets: &[u32; 16],
-) -> NextStart
-    requires fits { ⌜ ((ts : List Task) × Fits ts h n (now jobs) (now slack) (now next) (now release)) ⌝ }
-    requires within { ⌜ free ≤ h ⌝ }
-    ensures { λ r. ⌜ FindsNext (now (image .entry)) n h (now (jobs .entry)) (now (slack .entry)) (now (next .entry)) (now (release .entry))
-        free idle (now (offsets .entry)) r ⌝ }
+pub fn one_start(image: &[u8], kept: &[[u32; 16]; 5], at: &mut [[u32; 16]; 4]) -> NextStart
+    requires { ⌜ ((ts : Set) × Fits ts (now kept) (now at)) ⌝ }
+    ensures { λ r. ⌜ FindsNext (now (image .entry)) (now (kept .entry)) (now (at .entry)) r ⌝ }
 {
-    let none = [0u32; 16];
     let mut nowhere = [0u8; 0];
-    let run = starts(
-        image,
-        false,
-        n,
-        h,
-        jobs,
-        slack,
-        &none,
-        &none,
-        next,
-        release,
-        free,
-        idle,
-        offsets,
-        1,
-        &mut nowhere,
-        0,
-    );
+    let run = starts(image, false, kept, at, 1, &mut nowhere, 0);
     run.last
 }
 
-// What a cycle begins with of each task, into lent arrays of zeros: the release of its job 0, its time and its period.
-fn fill_from(s: TaskSet, release: &mut [u32; 16], times: &mut [u32; 16], periods: &mut [u32; 16])
-    requires release { ⌜ now release ≡ zeros ⌝ }
-    requires times { ⌜ now times ≡ zeros ⌝ }
-    requires periods { ⌜ now periods ≡ zeros ⌝ }
-    ensures release { λ _. ⌜ now (release .exit) ≡ first-releases s ⌝ }
-    ensures times { λ _. ⌜ now (times .exit) ≡ times-of s ⌝ }
-    ensures periods { λ _. ⌜ now (periods .exit) ≡ periods-of s ⌝ }
+// The release of each task's job 0.
+fn first_releases(s: TaskSet) -> [u32; 16]
+    ensures { λ r. ⌜ r ≡ first-releases s ⌝ }
 {
+    let mut release = [0u32; 16];
     let mut i: usize = 0;
     while i < 16 {
-        let t = s.tasks[i];
-        release[i] = t.offset;
-        times[i] = t.time;
-        periods[i] = t.period;
+        release[i] = s.tasks[i].offset;
         i += 1;
     }
+    release
 }
 
 // Replay through one cycle, as many starts as it has jobs, of an image whose records were judged. The entries are put into the output, one behind the
@@ -229,41 +158,20 @@ fn fill_from(s: TaskSet, release: &mut [u32; 16], times: &mut [u32; 16], periods
 pub fn cycle(
     image: &[u8],
     s: TaskSet,
-    h: u32,
-    jobs: &[u32; 16],
-    slack: &[u32; 16],
+    kept: &[[u32; 16]; 5],
     first: Offsets,
-    all: usize,
     out: &mut [u8],
-    at: usize,
+    place: usize,
 ) -> Run
-    requires can { ⌜ CanReplay (now image) s h (now jobs) (now slack) first ⌝ }
-    requires all { ⌜ all ≡ all-jobs h (tasks-of s) ⌝ }
-    ensures { λ r. ⌜ Ran (cycle-of (now (image .entry)) s h first) (now (out .entry)) at r (now (out .exit)) ⌝ }
+    requires { ⌜ CanReplay (now image) s (now kept) first ⌝ }
+    ensures { λ r. ⌜ Ran (cycle-of (now (image .entry)) s first) (now (out .entry)) place r (now (out .exit)) ⌝ }
 {
-    let n = s.n as usize;
+    let mut instants = [0u32; 16];
+    instants[IDLE] = first.idle;
     let next = [0u32; 16];
-    let mut releases = [0u32; 16];
-    let mut times = [0u32; 16];
-    let mut periods = [0u32; 16];
-    fill_from(s, &mut releases, &mut times, &mut periods);
+    let releases = first_releases(s);
     let offsets = first.inversions;
-    starts(
-        image,
-        true,
-        n,
-        h,
-        jobs,
-        slack,
-        &times,
-        &periods,
-        &next,
-        &releases,
-        0,
-        first.idle,
-        &offsets,
-        all,
-        out,
-        at,
-    )
+    let mut begin = [instants, next, releases, offsets];
+    let all = kept[FIGURES][ALL_JOBS] as usize;
+    starts(image, true, kept, &mut begin, all, out, place)
 }

@@ -3,14 +3,15 @@ use mathlib.Core.Path.{_≡_, refl, sym, _∙_, ap}
 use mathlib.Core.List.{List, [], _∷_, map}
 use Prim.Native.Nat.{ℕ, zero, suc, _-_, _≤_, _<_}
 use native.Mathlib.Omega.{arith}
-use lib.ListN.{length, getD, take, drop, replicate, length-map, length-append, length-replicate}
-use lib.Seq.{drop-cons, getD-take}
+use lib.ListN.{length, getD, drop, replicate, length-map, length-append, length-replicate}
+use lib.Seq.{drop-cons, getD-take, take-at, length-take-le}
 use Rattle.rules.specs.declared.Task.{Task}
-use Rattle.rules.specs.Tasks.{limits, task}
+use Rattle.rules.specs.declared.TaskSet.{TaskSet}
+use Rattle.rules.specs.Tasks.{Set, limits, set-with, memory-set, task}
 use Rattle.rules.specs.Priority.{slot, start-job}
 use Rattle.rules.specs.Setting.{Tables}
 use Rattle.rules.specs.Offsets.{put-slot, inversion-offsets, first-offsets}
-use Rattle.rules.specs.Dispatcher.{front}
+use Rattle.rules.specs.Dispatcher.{front, in-memory, zero-task}
 use Rattle.rules.specs.Marks.{Mark, size}
 use Rattle.rules.specs.Framing.{read}
 use Rattle.rules.proofs.PriorityLaws.{slot-empty}
@@ -39,8 +40,19 @@ pub slots-counted : {A B : Type 0} (fields : A → B) (slots : List A) (n : ℕ)
 slots-counted fields slots n e = sym (length-map slots fields) ∙ e
 
 -- the tasks of a set in memory are in its first n slots
-pub task-in-slot : (slots : List Task) (n i : ℕ) (d : Task) → n ≤ length slots → i < n → task (take n slots) i ≡ getD slots i d
-task-in-slot slots n i d room l = getD-take n slots i _ l ∙ inside-alike slots i _ d (omega arith)
+pub task-in-slot : (s : TaskSet) (i : ℕ) (d : Task) → s .n ≤ length (s .tasks) → i < s .n → task (memory-set s) i ≡ getD (s .tasks) i d
+unfolding memory-set
+task-in-slot s i d room l = getD-take (s .n) (s .tasks) i _ l ∙ inside-alike (s .tasks) i _ d (omega arith)
+
+-- and there are n of them
+pub memory-many : (s : TaskSet) → s .n ≤ length (s .tasks) → length (memory-set s .tasks) ≡ s .n
+unfolding memory-set
+memory-many s room = length-take-le (s .n) (s .tasks) room
+
+-- a set as it lies in memory is that set
+pub memory-keeps : (ts : Set) → memory-set (in-memory ts) ≡ ts
+unfolding memory-set
+memory-keeps ts = ap set-with (take-at (ts .tasks) (replicate (limits .tasks - length (ts .tasks)) zero-task) (length (ts .tasks)) refl)
 
 -- as many records are read as are asked for
 pub read-length : (m : Mark) (many : ℕ) (bytes : List ℕ) → length (read m many bytes) ≡ many
@@ -66,15 +78,15 @@ front-length (suc n) a [] l = absurd (omega arith)
 front-length (suc n) a (k ∷ b) l = ap suc (front-length n _ b (omega arith))
 
 -- the offsets as at a cycle's start fill all slots
-offsets-length : (ts : List Task) (X : Tables) (i many : ℕ) → length (inversion-offsets ts X i many) ≡ many
+offsets-length : (ts : Set) (X : Tables) (i many : ℕ) → length (inversion-offsets ts X i many) ≡ many
 offsets-length ts X i zero = refl
 offsets-length ts X i (suc many) = ap suc (offsets-length ts X (suc i) many)
 
-pub first-length : (ts : List Task) (X : Tables) → length ts ≤ limits .tasks → length (first-offsets ts X .inversions) ≡ limits .tasks
+pub first-length : (ts : Set) (X : Tables) → length (ts .tasks) ≤ limits .tasks → length (first-offsets ts X .inversions) ≡ limits .tasks
 first-length ts X l =
     omega (
       arith,
-      length-append (inversion-offsets ts X 0 (length ts)) (replicate (limits .tasks - length ts) 0),
-      offsets-length ts X 0 (length ts),
-      length-replicate {A = ℕ} (limits .tasks - length ts) 0,
+      length-append (inversion-offsets ts X 0 (length (ts .tasks))) (replicate (limits .tasks - length (ts .tasks)) 0),
+      offsets-length ts X 0 (length (ts .tasks)),
+      length-replicate {A = ℕ} (limits .tasks - length (ts .tasks)) 0,
     )

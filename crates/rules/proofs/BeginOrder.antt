@@ -17,6 +17,7 @@ use Rattle.rules.specs.Operations.{Tabled, Timed, read-tables, rebuild-f
 use Rattle.rules.specs.Offsets.{lent, Standing, NextStart, next-is, stuck, next-start}
 use Rattle.rules.specs.Dispatcher.{set-of, stopped, refused, started, start-next, fresh, at-begin, begin-accepted, begin-framed, begin}
 use Rattle.rules.proofs.Cases.{by-judged, clash}
+use Rattle.rules.proofs.Serving.{first-turn}
 
 -- a next start that is not found leaves the stopped state
 stuck-stopped : (bytes : List ℕ) (s : State) (c : ℕ) (a : Standing (List ℕ)) (r : Refusal) → start-next bytes s c a .answer ≡ Refused r →
@@ -28,24 +29,20 @@ stuck-stopped bytes s c a r = by-found (next-start (setting (set-of s)) (lent by
     by-found (stuck number) e = refl
 
 module _ (bytes : List ℕ) where
-  -- the turn that makes the first start of an image that is accepted
-  abbrev first-turn : Tabled → Turn
-  first-turn i = start-next bytes (fresh i) 0 (at-begin (fresh i))
-
   -- how beginning comes about: table checking refuses the image, or accepts it and the first start is looked for
   by-beginning : {A : Type 0} → ((r : Refusal) → check-tables bytes ≡ check-case.Refused r → begin bytes ≡ refused r stopped → A) →
-      ((i : Tabled) → check-tables bytes ≡ check-case.Accepted → begin bytes ≡ first-turn i → A) → A
+      ((i : Tabled) → check-tables bytes ≡ check-case.Accepted → begin bytes ≡ first-turn bytes i → A) → A
   unfolding check-tables begin
   by-beginning refusing accepting =
       by-judged (read-tables bytes)
       (λ i e. let c : check-tables bytes ≡ check-answer (rebuild-from i) = ap (λ (z : Judged Tabled). check-answer (then z rebuild-from)) e in
-      let b : begin bytes ≡ begin-accepted bytes i (judge-tables (i .tasks) (i .tables)) = ap (begin-framed bytes) e in
-      by-judged (judge-tables (i .tasks) (i .tables)) (λ τ j. accepting i (c ∙ ap (rebuilt-answer i) j) (b ∙ ap (begin-accepted bytes i) j))
+      let b : begin bytes ≡ begin-accepted bytes i (judge-tables (i .set) (i .tables)) = ap (begin-framed bytes) e in
+      by-judged (judge-tables (i .set) (i .tables)) (λ τ j. accepting i (c ∙ ap (rebuilt-answer i) j) (b ∙ ap (begin-accepted bytes i) j))
       (λ r j. refusing r (c ∙ ap (rebuilt-answer i) j) (b ∙ ap (begin-accepted bytes i) j)))
       (λ r e. refusing r (ap (λ (z : Judged Tabled). check-answer (then z rebuild-from)) e) (ap (begin-framed bytes) e))
     where
       timed : Tabled → List Entry → Judged Timed
-      timed i τ = gives (record { tasks = i .tasks; entries = τ })
+      timed i τ = gives (record { set = i .set; entries = τ })
 
       rebuilt-answer : Tabled → Judged (List Entry) → CheckAnswer
       rebuilt-answer i z = check-answer (then z (timed i))

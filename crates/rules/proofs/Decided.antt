@@ -14,13 +14,13 @@ use Rattle.fields.specs.Body.{head₀, tail₀}
 use Rattle.rules.specs.declared.Task.{Task}
 use Rattle.rules.specs.declared.Idle.{Idle}
 use Rattle.rules.specs.declared.Inversion.{Inversion}
-use Rattle.rules.specs.Tasks.{task, release, jobs, hyperperiod, KeepsItsRule}
+use Rattle.rules.specs.Tasks.{task-in, Set, task, release, jobs, hyperperiod, KeepsItsRule, set-with}
 use Rattle.rules.specs.Setting.{lowest, instant}
 use Rattle.rules.specs.Priority.{slot, all-started, least-release, is-left, waiting, setting-of, setting}
-use Rattle.rules.specs.Decision.{Choice, start-task, idle-at, first-idle, recorded, decide, delays}
+use Rattle.rules.specs.Decision.{Choice, start-task, idle-at, first-idle, recorded, decide, delays, is-of, wait-till}
 use Rattle.rules.specs.DecisionRule.{IdleStarts, Waiting, NextInstant, Recorded, Decides, uses-idle, starts-recorded, starts-waiting, DecidesBy}
 use Rattle.rules.specs.Judging.{inversion-in-range}
-use Rattle.rules.specs.Offsets.{Shown, unreadable, no-record, shows, Source, lent, is-of, own-delay, idle-now, Standing, shown-delays}
+use Rattle.rules.specs.Offsets.{Shown, unreadable, no-record, shows, Source, lent, own-delay, idle-now, Standing, shown-delays}
 use Rattle.rules.specs.GoingOn.{DecidesAt}
 use Rattle.rules.proofs.Cases.{by-bool, by-option, by-le, clash, differ, both-true, both-in}
 use Rattle.rules.proofs.Theory.{Pairs}
@@ -40,11 +40,11 @@ all-started-least h (t ∷ ts) x e =
     (λ b. rw (b, least-release) (all-started-least h ts (tail₀ x) (rw (b, all-started) at e)))
 
 -- with a job left, some job is waiting from the least release on
-some-waiting : (h : ℕ) (ts : List Task) (x : List ℕ) (t : ℕ) → ((i : ℕ) → KeepsItsRule (task ts i)) → all-started h ts x ≡ false → least-release h ts x ≤ t →
-    (i : ℕ) × Waiting ts h x t i
+some-waiting : (h : ℕ) (ts : List Task) (x : List ℕ) (t : ℕ) → ((i : ℕ) → KeepsItsRule (task-in ts i)) → all-started h ts x ≡ false → least-release h ts x ≤ t →
+    (i : ℕ) × Waiting (set-with ts) h x t i
 some-waiting h [] x t keep o l = differ o
 some-waiting h (t₀ ∷ ts) x t keep o l =
-    let later : all-started h ts (tail₀ x) ≡ false → least-release h ts (tail₀ x) ≤ t → (i : ℕ) × Waiting (t₀ ∷ ts) h x t i =
+    let later : all-started h ts (tail₀ x) ≡ false → least-release h ts (tail₀ x) ≤ t → (i : ℕ) × Waiting (set-with (t₀ ∷ ts)) h x t i =
     λ o′ l′. let w = some-waiting h ts (tail₀ x) t (λ i. keep (suc i)) o′ l′ in
     (suc (w .0), record { a-task = omega (arith, w .1 .a-task); left = w .1 .left; released = w .1 .released }) in
     by-bool (ltb (head₀ x) (jobs h t₀))
@@ -57,9 +57,9 @@ some-waiting h (t₀ ∷ ts) x t keep o l =
     (λ o′. later o′ l′)))
     (λ b. later (rw (b, all-started) at o) (rw (b, least-release) at l))
 
-module _ (ts : List Task) (h : ℕ) where
+module _ (ts : Set) (h : ℕ) where
   -- the test of waiting
-  waiting-tests : (x : List ℕ) (t : ℕ) → Tests (length ts) (waiting ts h x t) (Waiting ts h x t)
+  waiting-tests : (x : List ℕ) (t : ℕ) → Tests (length (ts .tasks)) (waiting ts h x t) (Waiting ts h x t)
   waiting-tests x t = record {
     below = λ i w. w .a-task;
     says = λ i l e. let a = both-true (is-left ts h x i) _ e in record { a-task = l; left = ltb-true _ _ (a .0); released = leb-true _ _ (a .1) };
@@ -76,17 +76,24 @@ module _ (ts : List Task) (h : ℕ) where
       rw (← q) (record { a-task = r .a-task; left = r .left; released = omega (arith, r .falls-now) })
   started-waits {i = i} (starts-waiting {i = j} unused none-recorded w) e = let q : j ≡ i = cc in rw (← q) (w .holds)
 
+  -- the rule idles or starts a job, and never waits by itself
+  pub rule-never-waits : {FirstUnused : Idle → Type 0} {Has : Inversion → Type 0} {x : List ℕ} {t r : ℕ} {c : Choice} → Decides ts h FirstUnused Has x t c →
+      c ≡ wait-till r → ⊥
+  rule-never-waits (uses-idle s) e = clash (cc)
+  rule-never-waits (starts-recorded unused w) e = clash (cc)
+  rule-never-waits (starts-waiting unused none-recorded w) e = clash (cc)
+
   -- at the next instant not all jobs have started
-  pub job-left : {x : List ℕ} {f t : ℕ} → NextInstant ts h x f t → all-started h ts x ≡ false
-  job-left {x} n = let w = n .some-job in left-not-all h ts x (w .0) (w .1 .a-task) (w .1 .left)
+  pub job-left : {x : List ℕ} {f t : ℕ} → NextInstant ts h x f t → all-started h (ts .tasks) x ≡ false
+  job-left {x} n = let w = n .some-job in left-not-all h (ts .tasks) x (w .0) (w .1 .a-task) (w .1 .left)
 
   module _ (keep : (i : ℕ) → KeepsItsRule (task ts i)) where
     -- the instant that is worked out is the next
-    pub instant-next : (x : List ℕ) (f : ℕ) → all-started h ts x ≡ false → NextInstant ts h x f (instant (setting-of ts h) x f)
+    pub instant-next : (x : List ℕ) (f : ℕ) → all-started h (ts .tasks) x ≡ false → NextInstant ts h x f (instant (setting-of ts h) x f)
     instant-next x f o = record {
       not-before = omega arith;
-      some-job = some-waiting h ts x (instant (setting-of ts h) x f) keep o (omega arith);
-      none-before = λ u lo hi i w. omega (arith, w .released, least-below h ts x i (w .a-task) (w .left));
+      some-job = some-waiting h (ts .tasks) x (instant (setting-of ts h) x f) keep o (omega arith);
+      none-before = λ u lo hi i w. omega (arith, w .released, least-below h (ts .tasks) x i (w .a-task) (w .left));
     }
 
     -- and the next instant is the one that is worked out
@@ -94,26 +101,26 @@ module _ (ts : List Task) (h : ℕ) where
     next-instant {x} {f} {t} n =
         let u : ℕ = instant (setting-of ts h) x f in
         let w = n .some-job in
-        let by-then : u ≤ t = omega (arith, n .not-before, w .1 .released, least-below h ts x (w .0) (w .1 .a-task) (w .1 .left)) in
+        let by-then : u ≤ t = omega (arith, n .not-before, w .1 .released, least-below h (ts .tasks) x (w .0) (w .1 .a-task) (w .1 .left)) in
         let v = instant-next x f (job-left n) .some-job in
         by-le t u (λ l. omega arith) (λ l. absurd (n .none-before u (omega arith) l (v .0) (v .1)))
 
     -- with a job left, the next instant is the larger of f and the least release
-    pub next-instants : (x : List ℕ) (f t : ℕ) → NextInstant ts h x f t ↔ ((all-started h ts x ≡ false) × (instant (setting-of ts h) x f ≡ t))
+    pub next-instants : (x : List ℕ) (f t : ℕ) → NextInstant ts h x f t ↔ ((all-started h (ts .tasks) x ≡ false) × (instant (setting-of ts h) x f ≡ t))
     next-instants x f t = (λ n. (job-left n, next-instant n), λ w. rw (← w .1) (instant-next x f (w .0)))
 
   -- what the rule is worked out from stands for the records: the length of an idle record to be used at t, and the delay of each task's next job
   pub record StandsFor (FirstUnused : Idle → Type 0) (Has : Inversion → Type 0) (x : List ℕ) (t : ℕ) (length-now : Option ℕ) (delay : ℕ → Option ℕ) : Type 0 where
     pub an-idle : (l : ℕ) → length-now ≡ some l → (r : Idle) × IdleStarts FirstUnused t r × (r .length ≡ l)
     pub its-length : (r : Idle) → IdleStarts FirstUnused t r → length-now ≡ some (r .length)
-    pub an-inversion : (i d : ℕ) → i < length ts → delay i ≡ some d →
+    pub an-inversion : (i d : ℕ) → i < length (ts .tasks) → delay i ≡ some d →
         (r : Inversion) × Has r × (r .task ≡ i) × (r .job ≡ slot x i) × (r .delay ≡ d) × (slot x i < jobs h (task ts i))
-    pub its-delay : (i : ℕ) (r : Inversion) → i < length ts → Has r → r .task ≡ i → r .job ≡ slot x i → delay i ≡ some (r .delay)
+    pub its-delay : (i : ℕ) (r : Inversion) → i < length (ts .tasks) → Has r → r .task ≡ i → r .job ≡ slot x i → delay i ≡ some (r .delay)
 
   module _ {FirstUnused : Idle → Type 0} {Has : Inversion → Type 0} {x : List ℕ} {t : ℕ} {length-now : Option ℕ} {delay : ℕ → Option ℕ}
       (S : StandsFor FirstUnused Has x t length-now delay) where
     -- the test of a record for this instant
-    recorded-tests : Tests (length ts) (recorded (setting-of ts h) delay x t) (Recorded ts h Has x t)
+    recorded-tests : Tests (length (ts .tasks)) (recorded (setting-of ts h) delay x t) (Recorded ts h Has x t)
     recorded-tests = record {
       below = λ i w. w .a-task;
       says = λ i l e. by-option (delay i) (λ n. differ (sym e ∙ rw n))
@@ -134,8 +141,8 @@ module _ (ts : List Task) (h : ℕ) where
     pub decided : (i : ℕ) × Waiting ts h x t i → Decides ts h FirstUnused Has x t (decide (setting-of ts h) x t length-now delay)
     decided w =
         by-option length-now
-        (λ n. by-option (lowest (length ts) (recorded (setting-of ts h) delay x t))
-        (λ o. by-option (lowest (length ts) (waiting ts h x t)) (λ p. absurd (none-holds (waiting-tests x t) p (w .0) (w .1)))
+        (λ n. by-option (lowest (length (ts .tasks)) (recorded (setting-of ts h) delay x t))
+        (λ o. by-option (lowest (length (ts .tasks)) (waiting ts h x t)) (λ p. absurd (none-holds (waiting-tests x t) p (w .0) (w .1)))
         (λ i p. rw (n, o, p) (starts-waiting (none-idles n) (none-holds recorded-tests o) (lowest-is (waiting-tests x t) p))))
         (λ i o. rw (n, o) (starts-recorded (none-idles n) (lowest-is recorded-tests o))))
         (λ l e. let (r, s, q) = S .an-idle l e in rw (e, ← q) (uses-idle s))
@@ -159,7 +166,7 @@ module _ (ts : List Task) (h : ℕ) where
       its-length = λ r s. let e : idles ≡ r ∷ s .first-unused .0 = s .first-unused .1 in rw (e, eq-eqb _ _ (s .starts-now), idle-at);
       an-inversion = λ i d l e.
           let m = delay-has p i (slot x i) d e in
-          let a = both-true (ltb i (length ts)) _ (member-passes (inversion-in-range ts h) p ranges m) in
+          let a = both-true (ltb i (length (ts .tasks))) _ (member-passes (inversion-in-range ts h) p ranges m) in
           let b = both-true (ltb (slot x i) (jobs h (task ts i))) _ (a .1) in
           (record { task = i; job = slot x i; delay = d }, m, refl, refl, refl, ltb-true _ _ (b .0));
       its-delay = λ i r l m a b. rw (a, b) at (has-delay 0 0 p pairs m);
@@ -182,7 +189,7 @@ own-delay-some (shows r after) i j d e go =
     (λ b. let g : none ≡ some d = rw (b, own-delay) at e in clash (cc))
 
 -- by the records that the offsets of an image show
-module _ (bytes : List ℕ) (ts : List Task) (a : Standing (List ℕ)) (t : ℕ) where
+module _ (bytes : List ℕ) (ts : Set) (a : Standing (List ℕ)) (t : ℕ) where
   abbrev S : Source
   S = lent bytes ts
 
@@ -203,7 +210,7 @@ module _ (bytes : List ℕ) (ts : List Task) (a : Standing (List ℕ)) (t : ℕ)
     an-inversion = λ i d l e.
         own-delay-some (S .inversion-shown (slot (a .offsets) i)) i (slot (a .next) i) d e
         (λ r after q u v w.
-        let b = both-true (ltb (r .task) (length ts)) _ (lent-inversion-in-range bytes ts (slot (a .offsets) i) r after q) in
+        let b = both-true (ltb (r .task) (length (ts .tasks))) _ (lent-inversion-in-range bytes ts (slot (a .offsets) i) r after q) in
         let c = both-true (ltb (r .job) (jobs h (task ts (r .task)))) _ (b .1) in
         let left : r .job < jobs h (task ts (r .task)) = ltb-true _ _ (c .0) in
         (r, (after, same-offset u ∙ q), u, v, w, rw (u, v) at left));

@@ -10,12 +10,11 @@ use lib.ListN.{length, take, drop}
 use lib.Seq.{take-at}
 use borrow.Author.Tests.{le-leb}
 use Rattle.fields.specs.Number.{Bytes}
-use Rattle.rules.specs.declared.Task.{Task}
 use Rattle.rules.specs.declared.Entry.{Entry}
 use Rattle.rules.specs.declared.CheckAnswer.the-variants.{Accepted}
 use Rattle.rules.specs.declared.MakeAnswer.the-variants.{Made}
 use Rattle.rules.specs.Refusals.{Judged, gives, refuses, first, unless}
-use Rattle.rules.specs.Tasks.{GoodSet, hyperperiod, set-fault}
+use Rattle.rules.specs.Tasks.{Set, GoodSet, hyperperiod, set-fault}
 use Rattle.rules.specs.Timetable.{ValidTimetable}
 use Rattle.rules.specs.Setting.{Tables}
 use Rattle.rules.specs.Priority.{setting}
@@ -33,7 +32,7 @@ use Rattle.rules.proofs.Writable.{valid-writable, tables-writable}
 use Rattle.rules.proofs.HasTables.{derived-tables, one-table}
 
 -- a good set and a valid timetable of it
-module _ {ts : List Task} {h : ℕ} {τ : List Entry} (good : GoodSet ts h) (valid : ValidTimetable ts h τ) where
+module _ {ts : Set} {h : ℕ} {τ : List Entry} (good : GoodSet ts h) (valid : ValidTimetable ts h τ) where
   -- the set has no fault
   no-set-fault : set-fault ts ≡ none
   no-set-fault = set-good ts h good .0
@@ -57,24 +56,24 @@ module _ {ts : List Task} {h : ℕ} {τ : List Entry} (good : GoodSet ts h) (val
   gives-timetable = derived-judged ts τ no-set-fault valid-from
 
   -- its image is read as it was written
-  timetable-read : read-timetable (timetable-image ts τ) ≡ gives (record { tasks = ts; entries = τ })
+  timetable-read : read-timetable (timetable-image ts τ) ≡ gives (record { set = ts; entries = τ })
   timetable-read = written-timetable ts τ (valid-writable ts τ no-set-fault valid-from)
 
   -- and so is the image of its tables
-  tables-read : read-tables (table-image ts (tables ts τ)) ≡ gives (record { tasks = ts; tables = tables ts τ })
+  tables-read : read-tables (table-image ts (tables ts τ)) ≡ gives (record { set = ts; tables = tables ts τ })
   tables-read = written-tables ts (tables ts τ) (tables-writable ts τ no-set-fault valid-from)
 
 -- what a timetable that is accepted with tables is: valid, of a good set, with exactly these tables
-judged-good : (ts : List Task) (τ : List Entry) (X : Tables) → judge-timetable ts τ ≡ gives X →
+judged-good : (ts : Set) (τ : List Entry) (X : Tables) → judge-timetable ts τ ≡ gives X →
     GoodSet ts (hyperperiod ts) × ValidTimetable ts (hyperperiod ts) τ × (tables ts τ ≡ X)
 judged-good ts τ X e =
     let a = or-else-gives (first (set-fault ts) (timetable-fault ts τ)) (gives (tables ts τ)) X e in
     let b = first-none (set-fault ts) (timetable-fault ts τ) (a .0) in
     (good-set ts (b .0), no-fault-valid ts τ .0 (b .1), gives-in (tables ts τ) X (a .1))
 
-module _ {bytes : List ℕ} {ts : List Task} {τ : List Entry} (t : TimetableImage bytes ts τ) where
+module _ {bytes : List ℕ} {ts : Set} {τ : List Entry} (t : TimetableImage bytes ts τ) where
   -- deriving gives the set of a timetable image and the tables of its timetable
-  pub derives : derived bytes ≡ gives (record { tasks = ts; tables = tables ts τ })
+  pub derives : derived bytes ≡ gives (record { set = ts; tables = tables ts τ })
   derives = rw (t .is, timetable-read (t .good) (t .valid), gives-tables (t .good) (t .valid))
 
   -- their image, if there is room for it
@@ -92,13 +91,13 @@ module _ {bytes : List ℕ} {ts : List Task} {τ : List Entry} (t : TimetableIma
     is = refl;
   }
 
-module _ {bytes : List ℕ} {ts : List Task} {τ : List Entry} (t : TableImage bytes ts τ) where
+module _ {bytes : List ℕ} {ts : Set} {τ : List Entry} (t : TableImage bytes ts τ) where
   -- the tables of a table image are the derived ones
   pub tables-are : bytes ≡ table-image ts (tables ts τ)
   tables-are = t .is ∙ ap (table-image ts) (one-table (t .good) (t .valid) (t .has))
 
   -- rebuilding gives the set of a table image and the timetable behind its tables
-  pub rebuilds : rebuilt bytes ≡ gives (record { tasks = ts; entries = τ })
+  pub rebuilds : rebuilt bytes ≡ gives (record { set = ts; entries = τ })
   rebuilds = rw (tables-are, tables-read (t .good) (t .valid), gives-timetable (t .good) (t .valid))
 
   -- their image, if there is room for it
@@ -110,16 +109,16 @@ module _ {bytes : List ℕ} {ts : List Task} {τ : List Entry} (t : TableImage b
   image-of-timetable = record { h = t .h; good = t .good; valid = t .valid; is = refl }
 
   -- and is read as that set and that timetable
-  pub rebuilt-reads : read-timetable (timetable-image ts τ) ≡ gives (record { tasks = ts; entries = τ })
+  pub rebuilt-reads : read-timetable (timetable-image ts τ) ≡ gives (record { set = ts; entries = τ })
   rebuilt-reads = timetable-read (t .good) (t .valid)
 
 -- there is one set and one timetable behind tables
-pub one-timetable-behind : {bytes : List ℕ} {ts us : List Task} {τ σ : List Entry} → TableImage bytes ts τ → TableImage bytes us σ → (ts ≡ us) × (τ ≡ σ)
+pub one-timetable-behind : {bytes : List ℕ} {ts us : Set} {τ σ : List Entry} → TableImage bytes ts τ → TableImage bytes us σ → (ts ≡ us) × (τ ≡ σ)
 one-timetable-behind {bytes} {ts} {us} {τ} {σ} t u =
-    let one : Timed = record { tasks = ts; entries = τ } in
-    let other : Timed = record { tasks = us; entries = σ } in
+    let one : Timed = record { set = ts; entries = τ } in
+    let other : Timed = record { set = us; entries = σ } in
     let same : one ≡ other = gives-in one other (sym (rebuilds t) ∙ rebuilds u) in
-    (ap (λ (i : Timed). i .tasks) same, ap (λ (i : Timed). i .entries) same)
+    (ap (λ (i : Timed). i .set) same, ap (λ (i : Timed). i .entries) same)
 
 -- what plain checking accepts has been judged
 accepted-gives : {A B : Type 0} (z : Judged A) → check-answer z ≡ Accepted → ((a : A) → z ≡ gives a → B) → B
@@ -128,26 +127,26 @@ accepted-gives (refuses r) e go = clash (cc)
 
 module _ (bytes : List ℕ) (b : Bytes bytes) where
   -- bytes from which tables are derived are a timetable image
-  derived-of : (i : Tabled) → derived bytes ≡ gives i → (ts : List Task) × (τ : List Entry) × TimetableImage bytes ts τ
+  derived-of : (i : Tabled) → derived bytes ≡ gives i → (ts : Set) × (τ : List Entry) × TimetableImage bytes ts τ
   derived-of i e =
       then-gives (read-timetable bytes) derive-from i e
-      (λ j r d. then-gives (judge-timetable (j .tasks) (j .entries)) _ i d
-      (λ X q _. let g = judged-good (j .tasks) (j .entries) X q in (
-        j .tasks,
+      (λ j r d. then-gives (judge-timetable (j .set) (j .entries)) _ i d
+      (λ X q _. let g = judged-good (j .set) (j .entries) X q in (
+        j .set,
         j .entries,
-        record { h = hyperperiod (j .tasks); good = g .0; valid = g .1; is = framed-timetable bytes b j r .1 },
+        record { h = hyperperiod (j .set); good = g .0; valid = g .1; is = framed-timetable bytes b j r .1 },
       )))
 
   -- bytes from which a timetable is rebuilt are a table image
-  rebuilt-of : (i : Timed) → rebuilt bytes ≡ gives i → (ts : List Task) × (τ : List Entry) × TableImage bytes ts τ
+  rebuilt-of : (i : Timed) → rebuilt bytes ≡ gives i → (ts : Set) × (τ : List Entry) × TableImage bytes ts τ
   rebuilt-of i e =
       then-gives (read-tables bytes) rebuild-from i e
-      (λ j r d. then-gives (judge-tables (j .tasks) (j .tables)) _ i d
-      (λ τ q _. let g = judged-good (j .tasks) τ (j .tables) (timetable-judged (j .tasks) (j .tables) τ q) in (
-        j .tasks,
+      (λ j r d. then-gives (judge-tables (j .set) (j .tables)) _ i d
+      (λ τ q _. let g = judged-good (j .set) τ (j .tables) (timetable-judged (j .set) (j .tables) τ q) in (
+        j .set,
         τ,
         record {
-          h = hyperperiod (j .tasks);
+          h = hyperperiod (j .set);
           tables = j .tables;
           good = g .0;
           valid = g .1;
@@ -157,12 +156,12 @@ module _ (bytes : List ℕ) (b : Bytes bytes) where
       )))
 
   -- a timetable image is accepted exactly when it is that of a good set and a valid timetable
-  pub accepts-timetable : (check-timetable bytes ≡ Accepted) ↔ ((ts : List Task) × (τ : List Entry) × TimetableImage bytes ts τ)
+  pub accepts-timetable : (check-timetable bytes ≡ Accepted) ↔ ((ts : Set) × (τ : List Entry) × TimetableImage bytes ts τ)
   unfolding check-timetable
   accepts-timetable = (λ e. accepted-gives (derived bytes) e derived-of, λ w. ap check-answer (derives (w .2)))
 
   -- a table image is accepted exactly when it is that of a good set and of the tables of a valid timetable
-  pub accepts-tables : (check-tables bytes ≡ Accepted) ↔ ((ts : List Task) × (τ : List Entry) × TableImage bytes ts τ)
+  pub accepts-tables : (check-tables bytes ≡ Accepted) ↔ ((ts : Set) × (τ : List Entry) × TableImage bytes ts τ)
   unfolding check-tables
   accepts-tables = (λ e. accepted-gives (rebuilt bytes) e rebuilt-of, λ w. ap check-answer (rebuilds (w .2)))
 
@@ -187,7 +186,7 @@ gives-made z result out e = (rw e, rw e)
 
 module _ (bytes old : List ℕ) (n : ℕ) (b : Bytes bytes) where
   -- where deriving answers with a length, the bytes are a timetable image, and the front of the output is that of its tables
-  pub derive-made : derive bytes old ≡ Made n → (ts : List Task) × (τ : List Entry) × TimetableImage bytes ts τ × (take n (derive-output bytes old) ≡ table-image ts (tables ts τ))
+  pub derive-made : derive bytes old ≡ Made n → (ts : Set) × (τ : List Entry) × TimetableImage bytes ts τ × (take n (derive-output bytes old) ≡ table-image ts (tables ts τ))
   unfolding derive derive-output
   derive-made e =
       let m = made-gives (derived-image (length old) bytes) old n e in
@@ -196,7 +195,7 @@ module _ (bytes old : List ℕ) (n : ℕ) (b : Bytes bytes) where
       (w .0, w .1, w .2, m .2 ∙ into-gives (length old) _ (m .0) (sym (derives-image (w .2) (length old)) ∙ m .1)))
 
   -- where rebuilding answers with a length, the bytes are a table image, and the front of the output is that of the timetable behind it
-  pub rebuild-made : rebuild bytes old ≡ Made n → (ts : List Task) × (τ : List Entry) × TableImage bytes ts τ × (take n (rebuild-output bytes old) ≡ timetable-image ts τ)
+  pub rebuild-made : rebuild bytes old ≡ Made n → (ts : Set) × (τ : List Entry) × TableImage bytes ts τ × (take n (rebuild-output bytes old) ≡ timetable-image ts τ)
   unfolding rebuild rebuild-output
   rebuild-made e =
       let m = made-gives (rebuilt-image (length old) bytes) old n e in

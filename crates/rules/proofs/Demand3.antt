@@ -6,14 +6,13 @@ use native.Mathlib.Nat.{div-add-mod', mod-lt, div-lt-iff-lt-mul, lt-of-mul-lt-mu
 use native.Mathlib.Omega.{arith}
 use lib.ListN.{length}
 use Rattle.fields.specs.Number.{Bytes}
-use Rattle.rules.specs.declared.Task.{Task}
 use Rattle.rules.specs.declared.Entry.{Entry}
 use Rattle.rules.specs.declared.Start.{Start as StartOf}
 use Rattle.rules.specs.declared.StartAnswer.{StartAnswer}
 use Rattle.rules.specs.declared.StartAnswer.the-variants.{Start}
 use Rattle.rules.specs.declared.Dispatcher.{Dispatcher as State}
 use Rattle.rules.specs.Refusals.{gives, refusal}
-use Rattle.rules.specs.Tasks.{task, release, due, all-jobs, hyperperiod}
+use Rattle.rules.specs.Tasks.{Set, task, release, due, all-jobs, hyperperiod}
 use Rattle.rules.specs.Timetable.{entry-at, job-at, end-at}
 use Rattle.rules.specs.Setting.{Tables}
 use Rattle.rules.specs.Operations.{rebuilt}
@@ -28,14 +27,14 @@ use Rattle.rules.proofs.AcceptedTables.{served, begins, given-tables}
 use Rattle.rules.proofs.ServedCalls.{ServedTo, logged, early-refused, last-refused}
 
 -- an image that is accepted, with the set and the timetable that it gives
-module _ (bytes : List ℕ) (are-bytes : Bytes bytes) (ts : List Task) (τ : List Entry)
-    (accepted : rebuilt bytes ≡ gives (record { tasks = ts; entries = τ })) where
+module _ (bytes : List ℕ) (are-bytes : Bytes bytes) (ts : Set) (τ : List Entry)
+    (accepted : rebuilt bytes ≡ gives (record { set = ts; entries = τ })) where
   -- the tables that stand in it
-  its-tables : Tables
+  pub its-tables : Tables
   its-tables = given-tables bytes ts τ accepted .0
 
   -- they are what the dispatcher goes by
-  its-service : Served bytes ts its-tables τ
+  pub its-service : Served bytes ts its-tables τ
   unfolding its-tables
   its-service = let given = given-tables bytes ts τ accepted in served ts its-tables τ (given .2) bytes are-bytes (given .1)
 
@@ -54,7 +53,7 @@ module _ (bytes : List ℕ) (are-bytes : Bytes bytes) (ts : List Task) (τ : Lis
   at-least-one = omega (arith, as-many-entries, a-job (its-service .good))
 
   -- the k-th start is for an entry
-  an-entry : (k : ℕ) → k % length τ < length τ
+  pub an-entry : (k : ℕ) → k % length τ < length τ
   an-entry k = mod-lt k at-least-one
 
   -- in a cycle that is counted
@@ -67,7 +66,7 @@ module _ (bytes : List ℕ) (are-bytes : Bytes bytes) (ts : List Task) (τ : Lis
 
   module _ {k : ℕ} {a : StartAnswer} {d : State} (log : Log bytes ts k a d) (lt : k < all-starts τ) where
     -- it is served
-    serves-nth : ServedTo bytes ts its-tables τ its-service (k / length τ) (k % length τ) a d
+    pub serves-nth : ServedTo bytes ts its-tables τ its-service (k / length τ) (k % length τ) a d
     serves-nth = serves-at log (k / length τ) (k % length τ) (sym (div-add-mod' k (length τ))) (an-entry k) (a-cycle k lt)
 
     -- so it is the last answer, moved by whole hyperperiods

@@ -10,15 +10,15 @@ use lib.ListN.{length, drop, drop-of-length-le}
 use lib.Seq.{drop-cons, drop-nil, take-all}
 use borrow.Author.Tests.{ltb-true, ltb-false, leb-true, leb-false}
 use Rattle.fields.specs.Body.{head₀, tail₀}
-use Rattle.rules.specs.declared.Task.{Task}
 use Rattle.rules.specs.declared.Entry.{Entry}
 use Rattle.rules.specs.Refusals.{Test, test, First, no-test, holds, passes, first, unless, in-turn}
-use Rattle.rules.specs.Tasks.{no-task, task, release, due, jobs, hyperperiod, set-fault, set-tests}
+use Rattle.rules.specs.Tasks.{Set, no-task, task, release, due, jobs, hyperperiod, set-fault, set-tests}
 use Rattle.rules.specs.Timetable.{entry-at, count, job-at, end-at}
 use Rattle.rules.specs.Irregularities.{end-before}
 use Rattle.rules.specs.Priority.{slot, all-started, entry-breaks, setting-of}
 use Rattle.rules.specs.Judging.{numbered, entries-fault, missing-from, timetable-fault}
 use Rattle.rules.specs.Order.{Overlaps, entry-tests, Missing, missing-tests, timetable-tests}
+use Rattle.rules.specs.Image.{head-count}
 use Rattle.rules.proofs.FirstTests.{first-then, first-pick}
 use Rattle.rules.proofs.GoodSets.{set-order}
 use Rattle.rules.proofs.Appearances.{job-below, appearance}
@@ -43,7 +43,7 @@ lowest-missing : (b : Bool) (i : ℕ) (all : Bool) (others : ℕ) {condition : T
 lowest-missing true i all others fails met next = holds (met refl)
 lowest-missing false i all others fails met next = passes (fails refl) next
 
-module _ (ts : List Task) (h : ℕ) (τ : List Entry) where
+module _ (ts : Set) (h : ℕ) (τ : List Entry) where
   -- the test of overlap says whether entry j overlaps
   no-overlap : (j : ℕ) → leb (end-before ts τ j) (entry-at τ j .start) ≡ true → Overlaps ts h τ j → ⊥
   no-overlap zero e c = c
@@ -55,14 +55,14 @@ module _ (ts : List Task) (h : ℕ) (τ : List Entry) where
 
   -- numbers 11 to 15 of entry j
   entry-order : {j : ℕ} {x : List ℕ} {f : ℕ} {e : Entry} {σ : List Entry} → Before ts h τ j x f (e ∷ σ) →
-      First (entry-tests ts h τ j) (numbered (entry-breaks ts h x f (e .task) (e .start)) (suc (length ts + j)))
+      First (entry-tests ts h τ j) (numbered (entry-breaks ts h x f (e .task) (e .start)) (head-count ts + j))
   entry-order {j} {x} b =
-      let place : ℕ = suc (length ts + j) in
+      let place : ℕ = head-count ts + j in
       let i : ℕ = entry-at τ j .task in
       let s : ℕ = entry-at τ j .start in
       let k : ℕ = job-at τ j in
       rw (← (is-entry ts h τ b), b .free, b .started i)
-      (first-pick (ltb i (length ts)) _ 10 place (λ e c. omega (arith, ltb-true i (length ts) e)) (λ e. ltb-false _ _ e)
+      (first-pick (ltb i (length (ts .tasks))) _ 10 place (λ e c. omega (arith, ltb-true i (length (ts .tasks)) e)) (λ e. ltb-false _ _ e)
       (λ _. first-pick (ltb k (jobs h (task ts i))) _ 11 place (λ e c. omega (arith, ltb-true k (jobs h (task ts i)) e)) (λ e. ltb-false _ _ e)
       (λ _. first-pick (leb (release (task ts i) k) s) _ 12 place (λ e c. omega (arith, leb-true (release (task ts i) k) s e)) (λ e. leb-false _ _ e)
       (λ _. first-pick (leb (end-before ts τ j) s) _ 13 place (no-overlap j) (overlap j)
@@ -78,36 +78,36 @@ module _ (ts : List Task) (h : ℕ) (τ : List Entry) where
   enough-there i k l m n = let a = appearance τ i k (omega arith) in n (a .0) (a .1) (a .2) (a .3)
 
   -- number 16, from task i on, of next job numbers that count the appearances
-  missing-order : (x : List ℕ) → ((i : ℕ) → slot x i ≡ count i τ) → (i left : ℕ) → i + left ≡ length ts →
-      First (in-turn (missing-tests ts h τ) i left) (unless (all-started h (drop i ts) (drop i x)) 16 (missing-from i h (drop i ts) (drop i x)))
-  missing-order x c i zero e = rw (drop-of-length-le ts {i = i} (omega arith)) no-test
+  missing-order : (x : List ℕ) → ((i : ℕ) → slot x i ≡ count i τ) → (i left : ℕ) → i + left ≡ length (ts .tasks) →
+      First (in-turn (missing-tests ts h τ) i left) (unless (all-started h (drop i (ts .tasks)) (drop i x)) 16 (missing-from i h (drop i (ts .tasks)) (drop i x)))
+  missing-order x c i zero e = rw (drop-of-length-le (ts .tasks) {i = i} (omega arith)) no-test
   missing-order x c i (suc left) e =
       let q : head₀ (drop i x) ≡ count i τ = head-drop x i ∙ c i in
-      rw (drop-cons ts i no-task (omega arith))
-      (lowest-missing (ltb (head₀ (drop i x)) (jobs h (task ts i))) i (all-started h (drop (suc i) ts) (tail₀ (drop i x)))
-      (missing-from (suc i) h (drop (suc i) ts) (tail₀ (drop i x)))
+      rw (drop-cons (ts .tasks) i no-task (omega arith))
+      (lowest-missing (ltb (head₀ (drop i x)) (jobs h (task ts i))) i (all-started h (drop (suc i) (ts .tasks)) (tail₀ (drop i x)))
+      (missing-from (suc i) h (drop (suc i) (ts .tasks)) (tail₀ (drop i x)))
       (λ b m. enough-there i (m .0) (omega (arith, ltb-false (head₀ (drop i x)) (jobs h (task ts i)) b)) (m .1) (m .2))
       (λ b. (count i τ, omega (arith, ltb-true (head₀ (drop i x)) (jobs h (task ts i)) b), past-missing i (count i τ) (omega arith)))
       (rw (tail-drop x i) (missing-order x c (suc i) left (omega arith))))
 
   -- entries in turn, from entry j on, then 16
   entries-order : (σ : List Entry) (j : ℕ) (x : List ℕ) (f : ℕ) → Before ts h τ j x f σ →
-      First (in-turn (entry-tests ts h τ) j (length σ) ++ in-turn (missing-tests ts h τ) 0 (length ts))
-      (entries-fault (setting-of ts h) (missing-from 0 h ts) (suc (length ts + j)) x f σ)
+      First (in-turn (entry-tests ts h τ) j (length σ) ++ in-turn (missing-tests ts h τ) 0 (length (ts .tasks)))
+      (entries-fault (setting-of ts h) (missing-from 0 h (ts .tasks)) (head-count ts + j) x f σ)
   entries-order [] j x f b =
-      missing-order x (λ i. b .started i ∙ ap (count i) (take-all j τ (past-end ts h τ b))) 0 (length ts) (omega arith)
+      missing-order x (λ i. b .started i ∙ ap (count i) (take-all j τ (past-end ts h τ b))) 0 (length (ts .tasks)) (omega arith)
   entries-order (e ∷ σ) j x f b =
-      first-then (entry-order b) (λ _. rw (← (add-suc (length ts) j)) (entries-order σ (suc j) _ _ (at-next ts h τ b)))
+      first-then (entry-order b) (λ _. rw (← (add-suc (head-count ts) j)) (entries-order σ (suc j) _ _ (at-next ts h τ b)))
 
   -- the first fault of entries, for any end of the cycle, is that of the first test that refuses
-  pub judging-order : First (timetable-tests ts h τ) (entries-fault (setting-of ts h) (missing-from 0 h ts) (suc (length ts)) [] 0 τ)
-  judging-order = rw (add-zero (length ts)) at (entries-order τ 0 [] 0 (at-first ts h τ))
+  pub judging-order : First (timetable-tests ts h τ) (entries-fault (setting-of ts h) (missing-from 0 h (ts .tasks)) (head-count ts) [] 0 τ)
+  judging-order = rw (add-zero (head-count ts)) at (entries-order τ 0 [] 0 (at-first ts h τ))
 
 -- the first fault of a timetable is that of the first test that refuses
-pub timetable-order : (ts : List Task) (τ : List Entry) → First (timetable-tests ts (hyperperiod ts) τ) (timetable-fault ts τ)
+pub timetable-order : (ts : Set) (τ : List Entry) → First (timetable-tests ts (hyperperiod ts) τ) (timetable-fault ts τ)
 timetable-order ts τ = judging-order ts (hyperperiod ts) τ
 
 -- the set first, then its timetable
-pub judged-timetable-order : (ts : List Task) (τ : List Entry) →
+pub judged-timetable-order : (ts : Set) (τ : List Entry) →
     First (set-tests ts ++ timetable-tests ts (hyperperiod ts) τ) (first (set-fault ts) (timetable-fault ts τ))
 judged-timetable-order ts τ = first-then (set-order ts) (λ _. timetable-order ts τ)

@@ -1,24 +1,25 @@
 -- The forced idles that are derived of a valid timetable are those of document 01, and no others. Assumes nothing.
 use mathlib.Core.Path.{_≡_, refl, ap}
 use mathlib.Core.List.{List, [], _∷_, _++_}
-use Prim.Native.Nat.{ℕ, zero, suc, _-_, min, _≤_, _<_}
+use Prim.Native.Nat.{ℕ, suc, min, _≤_, _<_}
 use native.Mathlib.Omega.{arith}
 use native.Mathlib.Nat.{div-mul-le-self, mul-le-mul-right}
 use lib.Dec.{ltb}
 use lib.ListN.{length}
-use borrow.Author.Tests.{ltb-true, lt-ltb, le-ltb}
+use borrow.Author.Tests.{ltb-true}
 use Rattle.fields.specs.Body.{head₀, tail₀}
 use Rattle.rules.specs.declared.Task.{Task}
 use Rattle.rules.specs.declared.Entry.{Entry}
 use Rattle.rules.specs.declared.Idle.{Idle}
-use Rattle.rules.specs.Tasks.{task, release, jobs, KeepsItsRule}
+use Rattle.rules.specs.Tasks.{Set, task, release, jobs, KeepsItsRule, task-in}
 use Rattle.rules.specs.Timetable.{entry-at}
-use Rattle.rules.specs.Setting.{lowest, instant}
-use Rattle.rules.specs.Priority.{slot, least-release, waiting, setting-of}
+use Rattle.rules.specs.Setting.{instant}
+use Rattle.rules.specs.Priority.{slot, least-release, setting-of}
 use Rattle.rules.specs.Irregularities.{NotStarted, LeastRelease, IsInstant, ForcedIdles, no-entry, at-once, forced, gap, forced-idles}
-use Rattle.rules.proofs.Cases.{by-bool, by-le, by-option}
+use Rattle.rules.proofs.Cases.{by-bool, by-le}
 use Rattle.rules.proofs.Theory.{ValidFrom, finished, entry}
-use Rattle.rules.proofs.PriorityLaws.{StartKeepsRules, keeps-rules, least-below}
+use Rattle.rules.proofs.Gaps.{no-gap, whole-gap}
+use Rattle.rules.proofs.PriorityLaws.{StartKeepsRules, keeps-rules, least-below, never-waits}
 use Rattle.rules.proofs.Positions.{Before, at-first, past-end, an-entry, is-entry, at-next}
 
 -- releases of a task rise with the job
@@ -33,8 +34,8 @@ released-in-cycle h t k rule lt = omega (arith, mul-le-mul-right (t .period) lt,
 pub record NextRelease (h : ℕ) (ts : List Task) (x : List ℕ) (r : ℕ) : Type 0 where
   pub i : ℕ
   pub a-task : i < length ts
-  pub a-job : slot x i < jobs h (task ts i)
-  pub is-release : r ≡ release (task ts i) (slot x i)
+  pub a-job : slot x i < jobs h (task-in ts i)
+  pub is-release : r ≡ release (task-in ts i) (slot x i)
 
 -- of the tasks behind the first too
 later-task : {h : ℕ} {t : Task} {ts : List Task} {x : List ℕ} {r : ℕ} → NextRelease h ts (tail₀ x) r → NextRelease h (t ∷ ts) x r
@@ -51,7 +52,7 @@ least-found h (t ∷ ts) x r e lt =
     (λ le. record { i = 0; a-task = omega arith; a-job = ltb-true _ _ b; is-release = omega arith }) (λ gt. later (omega arith)))
     (λ b. later (rw (b, least-release) at e))
 
-module _ (ts : List Task) (h : ℕ) (τ : List Entry) where
+module _ (ts : Set) (h : ℕ) (τ : List Entry) where
   -- the least release is one number
   pub least-release-unique : {j r s : ℕ} → LeastRelease ts h τ j r → LeastRelease ts h τ j s → r ≡ s
   least-release-unique a b = omega (arith, a .least _ _ (b .not-started), b .least _ _ (a .not-started))
@@ -78,13 +79,13 @@ module _ (ts : List Task) (h : ℕ) (τ : List Entry) where
     not-below-slot {i} {k} n = omega (arith, b .started i, n .not-before)
 
     -- a task's next job has not started
-    pub next-not-started : {i : ℕ} → i < length ts → slot x i < jobs h (task ts i) → NotStarted ts h τ j i (slot x i)
+    pub next-not-started : {i : ℕ} → i < length (ts .tasks) → slot x i < jobs h (task ts i) → NotStarted ts h τ j i (slot x i)
     next-not-started {i} a-task a-job = record { a-task = a-task; a-job = a-job; not-before = omega (arith, b .started i) }
 
     -- where it lies before the cycle's end, the least release by slots is the document's
-    pub is-least-release : least-release h ts x < h → LeastRelease ts h τ j (least-release h ts x)
+    pub is-least-release : least-release h (ts .tasks) x < h → LeastRelease ts h τ j (least-release h (ts .tasks) x)
     is-least-release lt =
-        let n = least-found h ts x (least-release h ts x) refl lt in
+        let n = least-found h (ts .tasks) x (least-release h (ts .tasks) x) refl lt in
         record {
           i = n .i;
           k = slot x (n .i);
@@ -92,27 +93,16 @@ module _ (ts : List Task) (h : ℕ) (τ : List Entry) where
           is-release = n .is-release;
           least = λ i k m. let le = not-below-slot m in omega (
             arith,
-            least-below h ts x i (m .a-task) (omega (arith, m .a-job)),
+            least-below h (ts .tasks) x i (m .a-task) (omega (arith, m .a-job)),
             releases-rise (task ts i) (slot x i) k le,
           );
         }
 
     -- and the instant of decision is the document's t
-    pub is-instant : least-release h ts x < h → IsInstant ts h τ j (instant (setting-of ts h) x f)
-    is-instant lt = record { r = least-release h ts x; is-least = is-least-release lt; is-larger = rw (b .free) }
+    pub is-instant : least-release h (ts .tasks) x < h → IsInstant ts h τ j (instant (setting-of ts h) x f)
+    is-instant lt = record { r = least-release h (ts .tasks) x; is-least = is-least-release lt; is-larger = rw (b .free) }
 
-module _ (ts : List Task) (h : ℕ) where
-  -- a start at or before the instant leaves no gap
-  pub no-gap : (turns : ℕ) (x : List ℕ) (t s : ℕ) → s ≤ t → gap (setting-of ts h) turns x t s ≡ []
-  no-gap zero x t s le = refl
-  no-gap (suc turns) x t s le = rw (le-ltb t s le, gap)
-
-  -- a later start leaves the whole gap from the instant on: the baseline never waits
-  pub whole-gap : (turns : ℕ) (x : List ℕ) (t s : ℕ) → t < s → 0 < turns → gap (setting-of ts h) turns x t s ≡ record { start = t; length = s - t } ∷ []
-  whole-gap zero x t s lt some-turns = absurd (omega arith)
-  whole-gap (suc turns) x t s lt some-turns =
-      by-option (lowest (length ts) (waiting ts h x t)) (λ n. rw (lt-ltb t s lt, n, gap)) (λ i n. rw (lt-ltb t s lt, n, gap))
-
+module _ (ts : Set) (h : ℕ) where
   module _ (rules : (i : ℕ) → KeepsItsRule (task ts i)) (τ : List Entry) where
     -- one entry: its gap, before the forced idles of the entries after it
     gap-forced : {j : ℕ} {x : List ℕ} {f : ℕ} {e : Entry} {σ : List Entry} {idles : List Idle} → Before ts h τ j x f (e ∷ σ) →
@@ -120,15 +110,15 @@ module _ (ts : List Task) (h : ℕ) where
         ForcedIdles ts h τ j (gap (setting-of ts h) (e .start) x (instant (setting-of ts h) x f) (e .start) ++ idles)
     gap-forced {j} {x} {f} {e} {σ} {idles} b keeps rest =
         let t : ℕ = instant (setting-of ts h) x f in
-        let lt : least-release h ts x < h = omega (
+        let lt : least-release h (ts .tasks) x < h = omega (
           arith,
-          least-below h ts x (e .task) (keeps .a-task) (keeps .left),
+          least-below h (ts .tasks) x (e .task) (keeps .a-task) (keeps .left),
           released-in-cycle h (task ts (e .task)) (slot x (e .task)) (rules (e .task)) (keeps .left),
         ) in
         let is-t : IsInstant ts h τ j t = is-instant ts h τ b lt in
         let start-is : entry-at τ j .start ≡ e .start = ap (λ (d : Entry). d .start) (is-entry ts h τ b) in
-        by-le (e .start) t (λ le. rw (no-gap (e .start) x t (e .start) le) (at-once (an-entry ts h τ b) is-t (omega arith) rest))
-        (λ later. rw (whole-gap (e .start) x t (e .start) later (omega arith), ← start-is)
+        by-le (e .start) t (λ le. rw (no-gap (setting-of ts h) (e .start) x t (e .start) le) (at-once (an-entry ts h τ b) is-t (omega arith) rest))
+        (λ later. rw (whole-gap (setting-of ts h) (never-waits ts h) (e .start) x t (e .start) later (omega arith), ← start-is)
         (forced (an-entry ts h τ b) is-t (omega arith) rest))
 
     -- from any entry on, the derived forced idles are forced

@@ -16,11 +16,11 @@ use Rattle.rules.specs.declared.Refusal.{Refusal}
 use Rattle.rules.specs.Refusals.{Judged, gives, refuses, refusal, or-else, then, unless, Test, test, First, no-test, holds, passes, refusal-in}
 use Rattle.rules.specs.Tasks.{few-enough, limits}
 use Rattle.rules.specs.Priority.{slot}
-use Rattle.rules.specs.Marks.{Mark, TS, TK, SL, ID, PV, EN, row, size, values}
-use Rattle.rules.specs.Framing.{start-place, layout-at, allowed, mark-at, head-fault, tasks-due, goes-on, ends, after, frame-records, index-of-end, frame, Allowed, framing-tests, RefusesFraming, this-record, later-record}
+use Rattle.rules.specs.Marks.{Mark, TS, TK, EN, Class, head-class, end-class, row, size, values}
+use Rattle.rules.specs.Framing.{start-place, layout-at, allowed, mark-at, head-fault, tasks-due, goes-on, ends, after, frame-records, index-of-end, frame, Allowed, Breaks, framing-tests, RefusesFraming, this-record, later-record}
 use Rattle.rules.proofs.Cases.{clash, differ, by-le, both-true, both-in}
-use Rattle.rules.proofs.Marked.{turn-of, due-turn, later-turn, found-allowed, allowed-found, one-allowed}
-use Rattle.rules.proofs.FramingTurns.{After, past-head, bad-head, past-task, past-entry, past-idle, past-inversion, past-end, bad-end, by-after, moves, WholeAllowed, Frames, too-short, unmarked, cut-off, stops, goes, frames, frame-goes}
+use Rattle.rules.proofs.Marked.{in-class, not-lower, turn-of, due-turn, later-turn, found-allowed, allowed-found, one-allowed}
+use Rattle.rules.proofs.FramingTurns.{counted, After, past-head, bad-head, past-task, past-later, past-end, bad-end, by-after, moves, WholeAllowed, Frames, too-short, unmarked, cut-off, stops, goes, frames, frame-goes}
 use Rattle.rules.proofs.FirstTests.{NoneHolds, none-holds, one-first, first-then, first-unless}
 
 -- what holds at every place that framing reaches: TS is the first record, as many TK records are due as are missing, and behind them the index counts
@@ -28,14 +28,14 @@ use Rattle.rules.proofs.FirstTests.{NoneHolds, none-holds, one-first, f
 record Reached (s : Place) : Type 0 where
   at-head : s .rank ≡ 0 → s .index ≡ 0
   at-tasks : s .rank ≡ 1 → (1 ≤ s .due) × (s .index + s .due ≡ suc (s .tasks))
-  behind-tasks : 2 ≤ s .rank → s .index ≡ index-of-end (layout-at s)
+  behind-tasks : 2 ≤ s .rank → s .index ≡ index-of-end (layout-at EN s)
 
 -- it holds at the start
 start-reached : Reached start-place
 start-reached = record { at-head = λ h. refl; at-tasks = λ h. absurd (omega arith); behind-tasks = λ h. absurd (omega arith) }
 
 -- behind the tasks, where the index counts the layout
-behind-reached : {s : Place} → 2 ≤ s .rank → s .index ≡ index-of-end (layout-at s) → Reached s
+behind-reached : {s : Place} → 2 ≤ s .rank → s .index ≡ index-of-end (layout-at EN s) → Reached s
 behind-reached late e = record { at-head = λ h. absurd (omega arith); at-tasks = λ h. absurd (omega arith); behind-tasks = λ h. e }
 
 -- and where as many TK records are due as are missing
@@ -55,15 +55,9 @@ after-reached {kind} {s} {v = v} r (past-head h) a =
 after-reached {kind} {s} r past-task a =
     let d = r .at-tasks (due-turn (s .rank) 1 (omega arith) (turn-of kind s TK a)) in
     tasks-reached (suc (s .index)) (s .offset + size TK) (s .due - 1) (s .tasks) (omega arith)
-after-reached {kind} {s} r past-entry a =
-    let i = r .behind-tasks (later-turn (s .rank) 6 (omega arith) (turn-of kind s SL a) .0) in
-    behind-reached (omega arith) (omega arith)
-after-reached {kind} {s} r past-idle a =
-    let i = r .behind-tasks (later-turn (s .rank) 6 (omega arith) (turn-of kind s ID a) .0) in
-    behind-reached (omega arith) (omega arith)
-after-reached {kind} {s} r past-inversion a =
-    let i = r .behind-tasks (later-turn (s .rank) 7 (omega arith) (turn-of kind s PV a) .0) in
-    behind-reached (omega arith) (omega arith)
+after-reached {kind} {s} {m = m} r (past-later l e c) a =
+    let i = r .behind-tasks (later-turn (s .rank) (row m .rank) l (turn-of kind s m a) .0) in
+    behind-reached (omega (arith, not-lower (row m))) (omega (arith, counted c))
 
 -- what framing makes of the records up to EN, in an image of so many bytes: nothing may follow EN
 abbrev finished : ℕ → Judged Layout → Judged Layout
@@ -93,46 +87,60 @@ module _ (kind : ℕ) (s : Place) (bytes : List ℕ) where
   abbrev front-tests : List Test
   front-tests = short-test ∷ unmarked-test ∷ cut-test ∷ []
 
-  -- the tests of TS
+  -- the tests of the class head
   abbrev head-tests : List Test
   head-tests =
-      test 3 (s .index) (Allowed kind s bytes TS × (slot (values TS bytes) 0 ≡ 1 → ⊥))
-      ∷ test 4 (s .index) (Allowed kind s bytes TS × (slot (values TS bytes) 1 ≡ kind → ⊥))
-      ∷ test 5 (s .index) (Allowed kind s bytes TS × ((1 ≤ slot (values TS bytes) 2) × (slot (values TS bytes) 2 ≤ limits .tasks) → ⊥))
+      test 3 (s .index) (Breaks kind s bytes head-class (λ m v. slot v 0 ≡ 1 → ⊥))
+      ∷ test 4 (s .index) (Breaks kind s bytes head-class (λ m v. slot v 1 ≡ kind → ⊥))
+      ∷ test 5 (s .index) (Breaks kind s bytes head-class (λ m v. (1 ≤ slot v 2) × (slot v 2 ≤ limits .tasks) → ⊥))
       ∷ []
 
-  -- and that of EN
+  -- and that of the class end
   abbrev end-tests : List Test
-  end-tests = test 10 (s .index) (Allowed kind s bytes EN × ((slot (values EN bytes) 0 ≡ s .index) × (drop (size EN) bytes ≡ []) → ⊥)) ∷ []
+  end-tests =
+      test 10 (s .index) (Breaks kind s bytes end-class (λ m v. (slot v 0 ≡ s .index) × (drop (size m) bytes ≡ []) → ⊥)) ∷ []
+
+module _ (kind : ℕ) (s : Place) (bytes : List ℕ) (m : Mark) (a : Allowed kind s bytes m) where
+  -- a record that breaks a rule is this one
+  breaks-here : {c : Class} {Broken : Mark → List ℕ → Type 0} → Breaks kind s bytes c Broken → (row m .class ≡ c) × Broken m (values m bytes)
+  breaks-here {c} {Broken} b =
+      subst (λ (k : Mark). (row k .class ≡ c) × Broken k (values k bytes)) (one-allowed kind s bytes (b .mark) m (b .may) a) (b .of-class, b .broken)
+
+  not-broken : {c : Class} {Broken : Mark → List ℕ → Type 0} → Breaks kind s bytes c Broken → (Broken m (values m bytes) → ⊥) → ⊥
+  not-broken b keeps = keeps (breaks-here b .1)
+
+  -- and this one may break a rule of its class
+  this-breaks : {c : Class} {Broken : Mark → List ℕ → Type 0} → row m .class ≡ c → Broken m (values m bytes) → Breaks kind s bytes c Broken
+  this-breaks e b = record { mark = m; may = a; of-class = e; broken = b }
+
+  -- a record of the class head is refused by the first of its tests that holds
+  head-order : row m .class ≡ head-class → First (head-tests kind s bytes) (head-fault kind (s .index) (values m bytes))
+  head-order is =
+      let v = values m bytes in
+      first-then (first-unless (eqb (slot v 0) 1) 3 (s .index) (λ e b. not-broken b (λ f. f (eqb-true _ _ e))) (λ e. this-breaks is (eqb-false _ _ e)))
+      (λ _. first-then
+      (first-unless (eqb (slot v 1) kind) 4 (s .index) (λ e b. not-broken b (λ f. f (eqb-true _ _ e))) (λ e. this-breaks is (eqb-false _ _ e)))
+      (λ _. first-unless (few-enough (slot v 2)) 5 (s .index)
+      (λ e b. let c = both-true (leb 1 (slot v 2)) (leb (slot v 2) (limits .tasks)) e in not-broken b (λ f. f (leb-true _ _ (c .0), leb-true _ _ (c .1))))
+      (λ e. this-breaks is (λ c. differ (sym (both-in _ _ (le-leb _ _ (c .0)) (le-leb _ _ (c .1))) ∙ e)))))
+
+  -- no record of another class is refused by them
+  no-head : 0 < row m .rank → First (head-tests kind s bytes) none
+  no-head h =
+      let not-head : row m .class ≡ head-class → ⊥ = λ e. omega (arith, ap (λ (k : Mark). row k .rank) (in-class m head-class e)) in
+      all-pass (head-tests kind s bytes) (λ b. not-head (breaks-here b .0), (λ b. not-head (breaks-here b .0), (λ b. not-head (breaks-here b .0), tt)))
+
+  -- nor by that of the class end
+  no-end : row m .rank < row EN .rank → First (end-tests kind s bytes) none
+  no-end h =
+      let not-end : row m .class ≡ end-class → ⊥ = λ e. omega (arith, ap (λ (k : Mark). row k .rank) (in-class m end-class e)) in
+      all-pass (end-tests kind s bytes) (λ b. not-end (breaks-here b .0), tt)
+
+  -- a mark between them is refused by neither
+  neither : 0 < row m .rank → row m .rank < row EN .rank → First (head-tests kind s bytes ++ end-tests kind s bytes) none
+  neither h k = first-then (no-head h) (λ _. no-end k)
 
 module _ (kind : ℕ) (s : Place) (bytes : List ℕ) where
-  -- a TS is refused by the first of its tests that holds
-  head-order : Allowed kind s bytes TS → First (head-tests kind s bytes) (head-fault kind (s .index) (values TS bytes))
-  head-order a =
-      let v = values TS bytes in
-      first-then (first-unless (eqb (slot v 0) 1) 3 (s .index) (λ e c. c .1 (eqb-true _ _ e)) (λ e. (a, eqb-false _ _ e)))
-      (λ _. first-then (first-unless (eqb (slot v 1) kind) 4 (s .index) (λ e c. c .1 (eqb-true _ _ e)) (λ e. (a, eqb-false _ _ e)))
-      (λ _. first-unless (few-enough (slot v 2)) 5 (s .index)
-      (λ e c. let b = both-true (leb 1 (slot v 2)) (leb (slot v 2) (limits .tasks)) e in c .1 (leb-true _ _ (b .0), leb-true _ _ (b .1)))
-      (λ e. (a, λ c. differ (sym (both-in _ _ (le-leb _ _ (c .0)) (le-leb _ _ (c .1))) ∙ e)))))
-
-  module _ (m : Mark) (a : Allowed kind s bytes m) where
-    -- no other mark is refused by the tests of TS
-    no-head : 0 < row m .rank → First (head-tests kind s bytes) none
-    no-head h =
-        let not-head : Allowed kind s bytes TS → ⊥ = λ b. omega (arith, ap (λ (k : Mark). row k .rank) (one-allowed kind s bytes m TS a b)) in
-        all-pass (head-tests kind s bytes) (λ c. not-head (c .0), (λ c. not-head (c .0), (λ c. not-head (c .0), tt)))
-
-    -- no mark but EN is refused by that of EN
-    no-end : row m .rank < 8 → First (end-tests kind s bytes) none
-    no-end h =
-        let not-end : Allowed kind s bytes EN → ⊥ = λ b. omega (arith, ap (λ (k : Mark). row k .rank) (one-allowed kind s bytes m EN a b)) in
-        all-pass (end-tests kind s bytes) (λ c. not-end (c .0), tt)
-
-    -- a mark between them is refused by neither
-    neither : 0 < row m .rank → row m .rank < 8 → First (head-tests kind s bytes ++ end-tests kind s bytes) none
-    neither h k = first-then (no-head h) (λ _. no-end k)
-
   -- a whole record with an allowed mark passes the tests that come before its own
   whole-order : (m : Mark) {o : Option Refusal} → WholeAllowed kind s bytes m → First (head-tests kind s bytes ++ end-tests kind s bytes) o →
       First (framing-tests kind s bytes) o
@@ -147,11 +155,9 @@ module _ (kind : ℕ) (s : Place) (bytes : List ℕ) where
 goes-order : {kind : ℕ} {s t : Place} {bytes : List ℕ} {m : Mark} → Allowed kind s bytes m → After kind s m (values m bytes) (goes-on t) →
     First (head-tests kind s bytes ++ end-tests kind s bytes) none
 goes-order {kind} {s} {bytes = bytes} a (past-head h) =
-    first-then (subst (First (head-tests kind s bytes)) h (head-order kind s bytes a)) (λ _. no-end kind s bytes TS a (omega arith))
+    first-then (subst (First (head-tests kind s bytes)) h (head-order kind s bytes TS a refl)) (λ _. no-end kind s bytes TS a (omega arith))
 goes-order {kind} {s} {bytes = bytes} a past-task = neither kind s bytes TK a (omega arith) (omega arith)
-goes-order {kind} {s} {bytes = bytes} a past-entry = neither kind s bytes SL a (omega arith) (omega arith)
-goes-order {kind} {s} {bytes = bytes} a past-idle = neither kind s bytes ID a (omega arith) (omega arith)
-goes-order {kind} {s} {bytes = bytes} a past-inversion = neither kind s bytes PV a (omega arith) (omega arith)
+goes-order {kind} {s} {bytes = bytes} {m = m} a (past-later l e c) = neither kind s bytes m a (omega arith) e
 
 module _ (kind : ℕ) (s : Place) (bytes : List ℕ) (two : 2 ≤ length bytes) where
   -- without an allowed mark, 2
@@ -177,24 +183,25 @@ end-order : (kind : ℕ) (s : Place) (bytes : List ℕ) (whole : ℕ) → s .off
     slot (values EN bytes) 0 ≡ s .index → First (end-tests kind s bytes) (unless (leb whole (s .offset + size EN)) 10 (s .index))
 end-order kind s bytes whole e a n =
     first-unless (leb whole (s .offset + size EN)) 10 (s .index)
-    (λ c g. let none-left : length bytes ≤ size EN = omega (arith, leb-true whole (s .offset + size EN) c) in g .1 (n, drop-of-length-le bytes none-left))
-    (λ c. (a, λ g. omega (arith, leb-false whole (s .offset + size EN) c, length-drop (size EN) bytes, ap length (g .1))))
+    (λ c g. let none-left : length bytes ≤ size EN = omega (arith, leb-true whole (s .offset + size EN) c) in
+    not-broken kind s bytes EN a g (λ f. f (n, drop-of-length-le bytes none-left)))
+    (λ c. this-breaks kind s bytes EN a refl (λ g. omega (arith, leb-false whole (s .offset + size EN) c, length-drop (size EN) bytes, ap length (g .1))))
 
 -- a record that ends framing: its own tests refuse as framing does
 stops-order : {kind : ℕ} {s : Place} {bytes : List ℕ} {m : Mark} {z : Judged Layout} (whole : ℕ) → s .offset + length bytes ≡ whole → Reached s →
     Allowed kind s bytes m → After kind s m (values m bytes) (ends z) →
     First (head-tests kind s bytes ++ end-tests kind s bytes) (refusal-in (finished whole z))
 stops-order {kind} {s} {bytes} whole e r a (bad-head h) =
-    first-then (subst (First (head-tests kind s bytes)) h (head-order kind s bytes a)) (λ _. no-end kind s bytes TS a (omega arith))
+    first-then (subst (First (head-tests kind s bytes)) h (head-order kind s bytes TS a refl)) (λ _. no-end kind s bytes TS a (omega arith))
 stops-order {kind} {s} {bytes} whole e r a (past-end n) =
     let c = a .its-turn in
-    let index : s .index ≡ index-of-end (layout-at s) = r .behind-tasks (later-turn (s .rank) 8 (omega arith) c .0) in
+    let index : s .index ≡ index-of-end (layout-at EN s) = r .behind-tasks (later-turn (s .rank) 8 (omega arith) c .0) in
     let follows = leb whole (s .offset + size EN) in
     let its-order = first-then (no-head kind s bytes EN a (omega arith)) (λ _. end-order kind s bytes whole e a n) in
     subst (First (head-tests kind s bytes ++ end-tests kind s bytes))
-    (ap (unless follows 10) index ∙ refusal-or (unless follows 10 (index-of-end (layout-at s))) (layout-at s)) its-order
+    (ap (unless follows 10) index ∙ refusal-or (unless follows 10 (index-of-end (layout-at EN s))) (layout-at EN s)) its-order
 stops-order {kind} {s} {bytes} whole e r a (bad-end n) =
-    first-then (no-head kind s bytes EN a (omega arith)) (λ _. first-unless false 10 (s .index) (λ c. differ (sym c)) (λ _. (a, λ g. n (g .0))))
+    first-then (no-head kind s bytes EN a (omega arith)) (λ _. first-unless false 10 (s .index) (λ c. differ (sym c)) (λ _. this-breaks kind s bytes EN a refl (λ g. n (g .0))))
 
 -- what the tests make of an image from a place on: this record's first refusal, or a later record's
 data Tests (kind whole : ℕ) : Place → List ℕ → Judged Layout → Type 1 where

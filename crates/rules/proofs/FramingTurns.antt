@@ -1,5 +1,6 @@
 -- Framing turn by turn: each way that one record can go, and that no answer depends on the number of turns. Assumes nothing.
 use mathlib.Core.Path.{_≡_, refl, subst}
+use mathlib.Core.Logic.{_⊎_, inl, inr}
 use mathlib.Core.List.{List}
 use mathlib.Core.Option.{none, some}
 use Prim.Native.Nat.{ℕ, zero, suc, _+_, _≤_, _<_}
@@ -12,8 +13,8 @@ use Rattle.rules.specs.declared.Layout.{Layout}
 use Rattle.rules.specs.declared.Refusal.{Refusal}
 use Rattle.rules.specs.Refusals.{Judged, gives, refuses, refusal}
 use Rattle.rules.specs.Priority.{slot}
-use Rattle.rules.specs.Marks.{Mark, TS, TK, SL, ID, PV, EN, size, values}
-use Rattle.rules.specs.Framing.{layout-at, Next, goes-on, ends, mark-at, head-fault, after-head, after-task, after-listed, after-inversion, after, frame-from, frame-records}
+use Rattle.rules.specs.Marks.{Mark, TS, TK, SL, ID, PV, EN, row, size, values}
+use Rattle.rules.specs.Framing.{layout-at, Next, goes-on, ends, mark-at, head-fault, after-head, after-task, after-later, after, frame-from, frame-records}
 use Rattle.rules.proofs.Cases.{by-bool, by-option, by-eq}
 
 -- a case split that keeps the equation
@@ -21,24 +22,34 @@ by-next : {A : Type 0} (x : Next) → ((t : Place) → x ≡ goes-on t → A) �
 by-next (goes-on t) p q = p t refl
 by-next (ends z) p q = q z refl
 
--- what a record with an allowed mark leads to, mark by mark: a place to go on from, a layout, or a refusal of TS or EN
+-- what is counted behind a record between the tasks and EN, by its class: one more that is listed, or one more inversion
+pub data Counts (s : Place) (m : Mark) : ℕ → ℕ → Type 0 where
+  one-listed : (m ≡ SL) ⊎ (m ≡ ID) → Counts s m (suc (s .listed)) (s .inversions)
+  one-inversion : m ≡ PV → Counts s m (s .listed) (suc (s .inversions))
+
+-- one more record is counted, and none fewer that is listed
+pub counted : {s : Place} {m : Mark} {listed inversions : ℕ} → Counts s m listed inversions →
+    (listed + inversions ≡ suc (s .listed + s .inversions)) × (s .listed ≤ listed)
+counted (one-listed e) = (omega arith, omega arith)
+counted (one-inversion e) = (omega arith, omega arith)
+
+-- what a record with an allowed mark leads to: a place to go on from, a layout, or a refusal of TS or EN
 pub data After (kind : ℕ) (s : Place) : Mark → List ℕ → Next → Type 0 where
-  past-head : {v : List ℕ} → head-fault kind (s .index) v ≡ none → After kind s TS v (goes-on (after-head s v))
+  past-head : {v : List ℕ} → head-fault kind (s .index) v ≡ none → After kind s TS v (goes-on (after-head TS s v))
   bad-head : {v : List ℕ} {r : Refusal} → head-fault kind (s .index) v ≡ some r → After kind s TS v (ends (refuses r))
-  past-task : {v : List ℕ} → After kind s TK v (goes-on (after-task s))
-  past-entry : {v : List ℕ} → After kind s SL v (goes-on (after-listed SL s))
-  past-idle : {v : List ℕ} → After kind s ID v (goes-on (after-listed ID s))
-  past-inversion : {v : List ℕ} → After kind s PV v (goes-on (after-inversion s))
-  past-end : {v : List ℕ} → slot v 0 ≡ s .index → After kind s EN v (ends (gives (layout-at s)))
+  past-task : {v : List ℕ} → After kind s TK v (goes-on (after-task TK s))
+  past-later : {m : Mark} {v : List ℕ} {listed inversions : ℕ} → 2 ≤ row m .rank → row m .rank < row EN .rank → Counts s m listed inversions →
+      After kind s m v (goes-on (after-later m s listed inversions))
+  past-end : {v : List ℕ} → slot v 0 ≡ s .index → After kind s EN v (ends (gives (layout-at EN s)))
   bad-end : {v : List ℕ} → (slot v 0 ≡ s .index → ⊥) → After kind s EN v (ends (refuses (refusal 10 (s .index))))
 
 -- every record leads to one of these
 after-is : (kind : ℕ) (s : Place) (m : Mark) (v : List ℕ) → After kind s m v (after kind s m v)
 after-is kind s TS v = by-option (head-fault kind (s .index) v) (λ e. rw e (past-head e)) (λ r e. rw e (bad-head e))
 after-is kind s TK v = past-task
-after-is kind s SL v = past-entry
-after-is kind s ID v = past-idle
-after-is kind s PV v = past-inversion
+after-is kind s SL v = past-later {m = SL} (omega arith) (omega arith) (one-listed (inl refl))
+after-is kind s ID v = past-later {m = ID} (omega arith) (omega arith) (one-listed (inr refl))
+after-is kind s PV v = past-later {m = PV} (omega arith) (omega arith) (one-inversion refl)
 after-is kind s EN v = by-eq (slot v 0) (s .index) (λ e. rw (eq-eqb _ _ e) (past-end e)) (λ n. rw (ne-eqb _ _ n) (bad-end n))
 
 -- and so to what it is known to lead to
@@ -50,9 +61,7 @@ pub moves : {kind : ℕ} {s t : Place} {m : Mark} {v : List ℕ} → After kind 
     (t .index ≡ suc (s .index)) × (t .offset ≡ s .offset + size m)
 moves (past-head h) = (refl, refl)
 moves past-task = (refl, refl)
-moves past-entry = (refl, refl)
-moves past-idle = (refl, refl)
-moves past-inversion = (refl, refl)
+moves (past-later l e c) = (refl, refl)
 
 -- a whole record with an allowed mark stands at the front
 pub record WholeAllowed (kind : ℕ) (s : Place) (bytes : List ℕ) (m : Mark) : Type 0 where

@@ -26,15 +26,15 @@ use Rattle.rules.proofs.PossibleStates.{is-possible, possible-is, stopp
 
 module _ (bytes : List ℕ) (s : State) where
   -- in the next cycle there is a job left
-  left-in-next-cycle : PossibleState s → all-started (hyperperiod (set-of s)) (set-of s) (at-cycle-start s .next) ≡ false
+  left-in-next-cycle : PossibleState s → all-started (hyperperiod (set-of s)) (set-of s .tasks) (at-cycle-start s .next) ≡ false
   left-in-next-cycle p =
       let g = set-good (set-of s) (p .h) (p .good-set) in
       let k = good-set (set-of s) (g .0) in
-      left-not-all (hyperperiod (set-of s)) (set-of s) (at-cycle-start s .next) 0 (k .some-tasks)
+      left-not-all (hyperperiod (set-of s)) (set-of s .tasks) (at-cycle-start s .next) 0 (k .some-tasks)
       (omega (arith, slot-front (s .set .n) [] (s .next) 0 (p .some-tasks), some-jobs k 0 (k .some-tasks)))
 
   -- 25 for bytes, where the next start is looked for from one place
-  start-order : (c : ℕ) (a : Standing (List ℕ)) → PossibleState s → all-started (hyperperiod (set-of s)) (set-of s) (a .next) ≡ false →
+  start-order : (c : ℕ) (a : Standing (List ℕ)) → PossibleState s → all-started (hyperperiod (set-of s)) (set-of s .tasks) (a .next) ≡ false →
       (StuckAt (set-of s) (hyperperiod (set-of s)) (lent bytes (set-of s)) a → StuckNext bytes s) →
       (StuckNext bytes s → StuckAt (set-of s) (hyperperiod (set-of s)) (lent bytes (set-of s)) a) →
       First (test 25 0 (StuckNext bytes s) ∷ []) (start-refusal (start-next bytes s c a .answer))
@@ -57,7 +57,7 @@ module _ (bytes : List ℕ) (s : State) where
   next-order : PossibleState s →
       First (test 24 0 (CycleDone s × (last-cycle ≤ s .cycle)) ∷ test 25 0 (StuckNext bytes s) ∷ []) (start-refusal (next-turn bytes s .answer))
   next-order p =
-      by-bool (all-started (hyperperiod (set-of s)) (set-of s) (s .next))
+      by-bool (all-started (hyperperiod (set-of s)) (set-of s .tasks) (s .next))
       (λ a. let d : CycleDone s = cycle-done s p a in
       by-bool (ltb (s .cycle) last-cycle)
       (λ b. rw (a, b, next-turn)
@@ -115,7 +115,7 @@ module _ (bytes : List ℕ) (s : State) where
   -- a state that is possible, with an end that may be reported
   next-leaves : LeavesIfRefused s (next-turn bytes s)
   next-leaves =
-      by-bool (all-started (hyperperiod (set-of s)) (set-of s) (s .next))
+      by-bool (all-started (hyperperiod (set-of s)) (set-of s .tasks) (s .next))
       (λ a. by-bool (ltb (s .cycle) last-cycle)
       (λ b. rw (a, b, next-turn) (start-leaves (suc (s .cycle)) (at-cycle-start s)))
       (λ b. rw (a, b, next-turn) (refused-leaves all-done)))

@@ -7,13 +7,13 @@ use Prim.Native.Nat.{ℕ, zero, suc, _+_, _≤_, _<_}
 use native.Mathlib.Omega.{arith}
 use native.Mathlib.Nat.{le-of-dvd, le-div-iff-mul-le}
 use lib.Dec.{leb}
-use lib.ListN.{length, take, drop, drop-of-length-le, List·getD-eq-default}
+use lib.ListN.{length, drop, drop-of-length-le, List·getD-eq-default}
 use lib.Seq.{drop-cons}
 use borrow.Author.Tests.{leb-true, leb-false, le-leb}
 use Rattle.rules.specs.declared.Task.{Task}
 use Rattle.rules.specs.declared.TaskSet.{TaskSet}
 use Rattle.rules.specs.Refusals.{test, First, no-test, unless, in-turn}
-use Rattle.rules.specs.Tasks.{limits, no-task, task, jobs, all-jobs, KeepsItsRule, IsHyperperiod, GoodSet, hyperperiod, keeps-its-rule, few-enough, tasks-fault, set-fault, period-falls, task-tests, set-tests, memory-fault, memory-tests}
+use Rattle.rules.specs.Tasks.{sum-of-jobs, task-in, Set, limits, no-task, task, jobs, all-jobs, KeepsItsRule, IsHyperperiod, GoodSet, hyperperiod, keeps-its-rule, few-enough, tasks-fault, set-fault, period-falls, task-tests, set-tests, memory-fault, memory-tests, memory-set}
 use Rattle.rules.proofs.Cases.{by-le, both-true, both-in}
 use Rattle.rules.proofs.FirstTests.{NoneHolds, none-holds-at, none-holds-in-turn, none-holds, none-refuses, none-holds-both, both-none-hold, first-then, first-unless, first-rule, not-broken}
 use Rattle.rules.proofs.Hyperperiod.{Positive, hyperperiod-is, hyperperiod-positive, one-hyperperiod}
@@ -48,11 +48,11 @@ few-order : (n : ℕ) → First (test 5 0 (Few n → ⊥) ∷ []) (unless (few-e
 few-order n = first-rule (few-enough n) (few-tested n) (tested-few n) 5 0
 
 -- the period before task i, 0 for the first
-abbrev period-before : List Task → ℕ → ℕ
+abbrev period-before : Set → ℕ → ℕ
 period-before ts zero = 0
 period-before ts (suc i) = task ts i .period
 
-module _ (ts : List Task) where
+module _ (ts : Set) where
   -- number 6, of task i
   own-order : (i : ℕ) → First (test 6 (suc i) (KeepsItsRule (task ts i) → ⊥) ∷ []) (unless (keeps-its-rule (task ts i)) 6 (suc i))
   own-order i = first-rule (keeps-its-rule (task ts i)) (task-keeps (task ts i)) (keeps-task (task ts i)) 6 (suc i)
@@ -65,30 +65,30 @@ module _ (ts : List Task) where
       (λ e c. omega (arith, leb-true (task ts i .period) (task ts (suc i) .period) e)) (λ e. leb-false _ _ e)
 
   -- tasks in turn, from task i on
-  pub tasks-order : (i left : ℕ) → i + left ≡ length ts → First (in-turn (task-tests ts) i left) (tasks-fault (suc i) (period-before ts i) (drop i ts))
-  tasks-order i zero e = rw (drop-of-length-le ts {i = i} (omega arith)) no-test
+  pub tasks-order : (i left : ℕ) → i + left ≡ length (ts .tasks) → First (in-turn (task-tests ts) i left) (tasks-fault (suc i) (period-before ts i) (drop i (ts .tasks)))
+  tasks-order i zero e = rw (drop-of-length-le (ts .tasks) {i = i} (omega arith)) no-test
   tasks-order i (suc left) e =
-      rw (drop-cons ts i no-task (omega arith))
+      rw (drop-cons (ts .tasks) i no-task (omega arith))
       (first-then (own-order i) (λ z. first-then (period-order i) (λ y. tasks-order (suc i) left (omega arith))))
 
   -- a task that passes keeps its rule, and its period is not below the one before
-  tasks-keep : NoneHolds (in-turn (task-tests ts) 0 (length ts)) → (i : ℕ) → i < length ts → KeepsItsRule (task ts i) × (period-falls ts i → ⊥)
+  tasks-keep : NoneHolds (in-turn (task-tests ts) 0 (length (ts .tasks))) → (i : ℕ) → i < length (ts .tasks) → KeepsItsRule (task ts i) × (period-falls ts i → ⊥)
   tasks-keep z i l =
-      let a = none-holds-at (task-tests ts) 0 (length ts) z i (omega arith) (omega arith) in
+      let a = none-holds-at (task-tests ts) 0 (length (ts .tasks)) z i (omega arith) (omega arith) in
       (not-broken (keeps-its-rule (task ts i)) (task-keeps (task ts i)) (keeps-task (task ts i)) (a .0), a .1 .0)
 
-  pub periods-positive : NoneHolds (in-turn (task-tests ts) 0 (length ts)) → Positive ts
+  pub periods-positive : NoneHolds (in-turn (task-tests ts) 0 (length (ts .tasks))) → Positive (ts .tasks)
   periods-positive z i l = keeps-period (task ts i) (tasks-keep z i l .0)
 
   -- number 8, of a set whose periods are at least 1
-  long-order : Positive ts → First (test 8 0 ((h : ℕ) × IsHyperperiod ts h × (limits .ticks < h)) ∷ []) (unless (leb (hyperperiod ts) (limits .ticks)) 8 0)
+  long-order : Positive (ts .tasks) → First (test 8 0 ((h : ℕ) × IsHyperperiod ts h × (limits .ticks < h)) ∷ []) (unless (leb (hyperperiod ts) (limits .ticks)) 8 0)
   long-order pos =
       first-unless (leb (hyperperiod ts) (limits .ticks)) 8 0
       (λ e c. omega (arith, leb-true (hyperperiod ts) (limits .ticks) e, c .2, one-hyperperiod (c .1) (hyperperiod-is ts pos)))
       (λ e. (hyperperiod ts, hyperperiod-is ts pos, leb-false _ _ e))
 
   -- number 9, of such a set
-  many-order : Positive ts →
+  many-order : Positive (ts .tasks) →
       First (test 9 0 ((h : ℕ) × IsHyperperiod ts h × (limits .jobs < all-jobs h ts)) ∷ []) (unless (leb (all-jobs (hyperperiod ts) ts) (limits .jobs)) 9 0)
   many-order pos =
       first-unless (leb (all-jobs (hyperperiod ts) ts) (limits .jobs)) 9 0
@@ -99,17 +99,17 @@ module _ (ts : List Task) where
   -- the first fault of a set is that of the first test that refuses
   pub set-order : First (set-tests ts) (set-fault ts)
   set-order =
-      first-then (few-order (length ts))
-      (λ n. first-then (tasks-order 0 (length ts) (omega arith))
+      first-then (few-order (length (ts .tasks)))
+      (λ n. first-then (tasks-order 0 (length (ts .tasks)) (omega arith))
       (λ z. first-then (long-order (periods-positive z)) (λ y. many-order (periods-positive z))))
 
   -- a set with no fault is good
   pub good-set : set-fault ts ≡ none → GoodSet ts (hyperperiod ts)
   good-set e =
       let a = none-holds set-order e in
-      let b = none-holds-both (in-turn (task-tests ts) 0 (length ts)) _ (a .1) in
+      let b = none-holds-both (in-turn (task-tests ts) 0 (length (ts .tasks))) _ (a .1) in
       let is : IsHyperperiod ts (hyperperiod ts) = hyperperiod-is ts (periods-positive (b .0)) in
-      let n : Few (length ts) = not-broken (few-enough (length ts)) (few-tested (length ts)) (tested-few (length ts)) (a .0) in
+      let n : Few (length (ts .tasks)) = not-broken (few-enough (length (ts .tasks))) (few-tested (length (ts .tasks))) (tested-few (length (ts .tasks))) (a .0) in
       record {
         some-tasks = n .0;
         few-tasks = n .1;
@@ -120,24 +120,24 @@ module _ (ts : List Task) where
         few-jobs = by-le (all-jobs (hyperperiod ts) ts) (limits .jobs) (λ l. l) (λ g. absurd (b .1 .1 .0 (hyperperiod ts, is, g)));
       }
 
-  good-periods : {h : ℕ} → GoodSet ts h → Positive ts
+  good-periods : {h : ℕ} → GoodSet ts h → Positive (ts .tasks)
   good-periods g i l = keeps-period (task ts i) (g .own-rules i l)
 
-  not-falling : {h : ℕ} → GoodSet ts h → (i : ℕ) → i < length ts → period-falls ts i → ⊥
+  not-falling : {h : ℕ} → GoodSet ts h → (i : ℕ) → i < length (ts .tasks) → period-falls ts i → ⊥
   not-falling g zero l c = c
   not-falling g (suc i) l c = omega (arith, g .periods-rise i l)
 
   -- no test refuses a good set
-  good-tasks : {h : ℕ} → GoodSet ts h → NoneHolds (in-turn (task-tests ts) 0 (length ts))
+  good-tasks : {h : ℕ} → GoodSet ts h → NoneHolds (in-turn (task-tests ts) 0 (length (ts .tasks)))
   good-tasks g =
-      none-holds-in-turn (task-tests ts) 0 (length ts)
+      none-holds-in-turn (task-tests ts) 0 (length (ts .tasks))
       (λ i lo hi. (λ c. c (g .own-rules i (omega arith)), (not-falling g i (omega arith), tt)))
 
   good-none-holds : {h : ℕ} → GoodSet ts h → NoneHolds (set-tests ts)
   good-none-holds {h} g =
       let same : (m : ℕ) → IsHyperperiod ts m → m ≡ h = λ m o. one-hyperperiod o (g .is-hyperperiod) in (
         λ c. c (g .some-tasks, g .few-tasks),
-        both-none-hold (in-turn (task-tests ts) 0 (length ts)) _ (good-tasks g) (
+        both-none-hold (in-turn (task-tests ts) 0 (length (ts .tasks))) _ (good-tasks g) (
           λ c. omega (arith, c .2, g .short, same (c .0) (c .1)),
           (λ c. let m : limits .jobs < all-jobs h ts = rw (same (c .0) (c .1)) at (c .2) in omega (arith, g .few-jobs), tt),
         ),
@@ -148,32 +148,32 @@ module _ (ts : List Task) where
   set-good h g = (none-refuses set-order (good-none-holds g), one-hyperperiod (g .is-hyperperiod) (hyperperiod-is ts (good-periods g)))
 
 -- the hyperperiod of a good set is at least 1
-pub good-positive : {ts : List Task} {h : ℕ} → GoodSet ts h → 1 ≤ h
-good-positive {ts} {h} g = omega (arith, set-good ts h g .1, hyperperiod-positive ts (good-periods ts g))
+pub good-positive : {ts : Set} {h : ℕ} → GoodSet ts h → 1 ≤ h
+good-positive {ts} {h} g = omega (arith, set-good ts h g .1, hyperperiod-positive (ts .tasks) (good-periods ts g))
 
 -- task i of a good set keeps its rule, past the end too
-pub good-rules : {ts : List Task} {h : ℕ} → GoodSet ts h → (i : ℕ) → KeepsItsRule (task ts i)
+pub good-rules : {ts : Set} {h : ℕ} → GoodSet ts h → (i : ℕ) → KeepsItsRule (task ts i)
 good-rules {ts} g i =
-    by-le (length ts) i
-    (λ past. rw (List·getD-eq-default ts no-task {n = i} past) (record { takes-time = omega arith; fits = omega arith; within = omega arith }))
+    by-le (length (ts .tasks)) i
+    (λ past. rw (List·getD-eq-default (ts .tasks) no-task {n = i} past) (record { takes-time = omega arith; fits = omega arith; within = omega arith }))
     (λ l. g .own-rules i l)
 
 -- a task of a good set has at least one job
-pub some-jobs : {ts : List Task} {h : ℕ} → GoodSet ts h → (i : ℕ) → i < length ts → 1 ≤ jobs h (task ts i)
+pub some-jobs : {ts : Set} {h : ℕ} → GoodSet ts h → (i : ℕ) → i < length (ts .tasks) → 1 ≤ jobs h (task ts i)
 some-jobs {ts} {h} g i l =
     le-div-iff-mul-le {k = task ts i .period} {x = 1} {y = h} (good-periods ts g i l) .1
     (omega (arith, le-of-dvd {m = task ts i .period} {n = h} (good-positive g) (g .is-hyperperiod .common i l)))
 
 -- a task's jobs are among those of all tasks
-all-jobs-above : (h : ℕ) (ts : List Task) (i : ℕ) → i < length ts → jobs h (task ts i) ≤ all-jobs h ts
+all-jobs-above : (h : ℕ) (ts : List Task) (i : ℕ) → i < length ts → jobs h (task-in ts i) ≤ sum-of-jobs h ts
 all-jobs-above h [] i l = absurd (omega arith)
 all-jobs-above h (t ∷ ts) zero l = omega arith
 all-jobs-above h (t ∷ ts) (suc i) l = omega (arith, all-jobs-above h ts i (omega arith))
 
 -- a cycle of a good set has a job
-pub a-job : {ts : List Task} {h : ℕ} → GoodSet ts h → 1 ≤ all-jobs h ts
-a-job {ts} {h} g = omega (arith, some-jobs g 0 (g .some-tasks), all-jobs-above h ts 0 (g .some-tasks))
+pub a-job : {ts : Set} {h : ℕ} → GoodSet ts h → 1 ≤ all-jobs h ts
+a-job {ts} {h} g = omega (arith, some-jobs g 0 (g .some-tasks), all-jobs-above h (ts .tasks) 0 (g .some-tasks))
 
 -- a set in memory: the number of tasks, then the set in its first slots
 pub memory-order : (s : TaskSet) → First (memory-tests s) (memory-fault s)
-memory-order s = first-then (few-order (s .n)) (λ z. set-order (take (s .n) (s .tasks)))
+memory-order s = first-then (few-order (s .n)) (λ z. set-order (memory-set s))

@@ -2,9 +2,8 @@
 use mathlib.Core.Path.{_≡_}
 use mathlib.Core.List.{List, []}
 use Prim.Native.Nat.{ℕ}
-use Rattle.rules.specs.declared.Task.{Task}
 use Rattle.rules.specs.declared.Entry.{Entry}
-use Rattle.rules.specs.Tasks.{GoodSet}
+use Rattle.rules.specs.Tasks.{Set, GoodSet}
 use Rattle.rules.specs.Timetable.{ValidTimetable}
 use Rattle.rules.specs.Setting.{Tables}
 use Rattle.rules.specs.Priority.{setting-of}
@@ -17,7 +16,7 @@ use Rattle.rules.proofs.ForcedIdle.{derived-are-forced, forced-are-deri
 use Rattle.rules.proofs.Inversions.{derived-inversions, derived-rise, inversions-are-derived}
 use Rattle.rules.proofs.ValidTimetables.{valid-timetable}
 
-module _ {ts : List Task} {h : ℕ} {τ : List Entry} (g : GoodSet ts h) (v : ValidTimetable ts h τ) where
+module _ {ts : Set} {h : ℕ} {τ : List Entry} (g : GoodSet ts h) (v : ValidTimetable ts h τ) where
   -- the setting goes through the timetable
   valid-from : ValidFrom (setting-of ts h) [] 0 τ
   valid-from = valid-timetable ts h τ .1 v

@@ -9,7 +9,7 @@ use lib.Seq.{drop-drop}
 use Rattle.fields.specs.Number.{Bytes}
 use Rattle.rules.specs.declared.Layout.{Layout}
 use Rattle.rules.specs.Refusals.{gives}
-use Rattle.rules.specs.Marks.{Mark, TS, TK, PV, row, size, values}
+use Rattle.rules.specs.Marks.{Mark, TS, TK, PV, row, size, head-length-of, values}
 use Rattle.rules.specs.Image.{Record, image, records, end-record, Each}
 use Rattle.rules.specs.Framing.{frame, read, behind, behind-tasks}
 use Rattle.rules.proofs.Framed.{values-written, behind-written, frame-runs, frame-parses}
@@ -37,9 +37,12 @@ behind-drop m (suc many) bytes =
     let one-more : size m + many * size m ≡ suc many * size m = omega arith in
     behind-drop m many (drop (size m) bytes) ∙ drop-drop (many * size m) (size m) bytes ∙ ap (λ (o : ℕ). drop o bytes) one-more
 
--- behind the tasks is behind TS and so many TK
-pub behind-tasks-drop : (l : Layout) (bytes : List ℕ) → behind-tasks l bytes ≡ drop (size TS + l .tasks * size TK) bytes
-behind-tasks-drop l bytes = behind-drop TK (l .tasks) (drop (size TS) bytes) ∙ drop-drop (l .tasks * size TK) (size TS) bytes
+-- behind TS and n TK records is behind the head
+behind-head : (n : ℕ) (bytes : List ℕ) → drop (head-length-of n) bytes ≡ behind TK n (drop (size TS) bytes)
+behind-head n bytes = sym (behind-drop TK n (drop (size TS) bytes) ∙ drop-drop (n * size TK) (size TS) bytes)
+
+pub behind-tasks-drop : (l : Layout) (bytes : List ℕ) → behind-tasks l bytes ≡ drop (head-length-of (l .tasks)) bytes
+behind-tasks-drop l bytes = refl
 
 -- records that are read are the first of them and those behind
 pub read-both : (m : Mark) (many others : ℕ) (bytes : List ℕ) → read m (many + others) bytes ≡ read m many bytes ++ read m others (behind m many bytes)
@@ -64,12 +67,12 @@ read-back {kind} {m} vs us ps h =
     let inversions = records PV ps ++ end in
     let listed = records m us ++ inversions in
     let bytes = image (laid-out kind m vs us ps) in
-    let behind-head : drop (size TS) bytes ≡ image (records TK vs ++ listed) =
+    let behind-TS : drop (size TS) bytes ≡ image (records TK vs ++ listed) =
     behind-written TS (1 ∷ kind ∷ length vs ∷ []) (image (records TK vs ++ listed)) in
-    let behind-all-tasks : behind TK (length vs) (drop (size TS) bytes) ≡ image listed =
-    ap (behind TK (length vs)) behind-head ∙ behind-records TK vs listed in
+    let behind-all-tasks : drop (head-length-of (length vs)) bytes ≡ image listed =
+    behind-head (length vs) bytes ∙ ap (behind TK (length vs)) behind-TS ∙ behind-records TK vs listed in
     record {
-      tasks-read = ap (read TK (length vs)) behind-head ∙ read-records TK vs listed (h .tasks-fit);
+      tasks-read = ap (read TK (length vs)) behind-TS ∙ read-records TK vs listed (h .tasks-fit);
       listed-read = ap (read m (length us)) behind-all-tasks ∙ read-records m us inversions (h .listed-fit);
       inversions-read = ap (read PV (length ps)) (ap (behind m (length us)) behind-all-tasks ∙ behind-records m us inversions)
           ∙ read-records PV ps end (h .inversions-fit);

@@ -6,7 +6,7 @@ use native.Mathlib.Omega.{arith}
 use native.Mathlib.Nat.{mod-lt, dvd-refl, dvd-zero, one-dvd, dvd-trans, dvd-sub, dvd-mod-iff, dvd-mul-left, dvd-mul-right-of-dvd, mul-dvd-mul-right, div-mul-cancel, dvd-of-mul-dvd-mul-left, dvd-antisymm, pos-of-dvd-of-pos, one-le-mul, mod-eq-sub-mul-div, mul-sub, mul-assoc, mul-comm}
 use lib.ListN.{length}
 use Rattle.rules.specs.declared.Task.{Task}
-use Rattle.rules.specs.Tasks.{task, gcd, lcm, hyperperiod, IsHyperperiod}
+use Rattle.rules.specs.Tasks.{common-multiple, task-in, Set, gcd, lcm, hyperperiod, IsHyperperiod}
 use Rattle.rules.proofs.Cases.{by-nat}
 
 -- what divides k * a and k * b divides k times their greatest common divisor
@@ -71,33 +71,33 @@ module _ (a b : ℕ) (pos : 0 < a) where
 
 -- every period is at least 1
 abbrev pub Positive : List Task → Type 0
-Positive ts = (i : ℕ) → i < length ts → 1 ≤ task ts i .period
+Positive ts = (i : ℕ) → i < length ts → 1 ≤ task-in ts i .period
 
--- the hyperperiod worked out is at least 1
-pub hyperperiod-positive : (ts : List Task) → Positive ts → 1 ≤ hyperperiod ts
+-- the common-multiple worked out is at least 1
+pub hyperperiod-positive : (ts : List Task) → Positive ts → 1 ≤ common-multiple ts
 hyperperiod-positive [] pos = omega arith
 hyperperiod-positive (t ∷ ts) pos =
-    lcm-positive (t .period) (hyperperiod ts) (pos 0 (omega arith)) (hyperperiod-positive ts (λ i l. pos (suc i) (omega arith)))
+    lcm-positive (t .period) (common-multiple ts) (pos 0 (omega arith)) (hyperperiod-positive ts (λ i l. pos (suc i) (omega arith)))
 
 -- every period divides it
-hyperperiod-common : (ts : List Task) → Positive ts → (i : ℕ) → i < length ts → task ts i .period ∣ hyperperiod ts
+hyperperiod-common : (ts : List Task) → Positive ts → (i : ℕ) → i < length ts → task-in ts i .period ∣ common-multiple ts
 hyperperiod-common [] pos i l = absurd (omega arith)
-hyperperiod-common (t ∷ ts) pos zero l = lcm-left (t .period) (hyperperiod ts) (pos 0 l)
+hyperperiod-common (t ∷ ts) pos zero l = lcm-left (t .period) (common-multiple ts) (pos 0 l)
 hyperperiod-common (t ∷ ts) pos (suc i) l =
-    dvd-trans (task ts i .period) (hyperperiod-common ts (λ j m. pos (suc j) (omega arith)) i (omega arith))
-    (lcm-right (t .period) (hyperperiod ts) (pos 0 (omega arith)))
+    dvd-trans (task-in ts i .period) (hyperperiod-common ts (λ j m. pos (suc j) (omega arith)) i (omega arith))
+    (lcm-right (t .period) (common-multiple ts) (pos 0 (omega arith)))
 
 -- it divides every number that every period divides
-hyperperiod-least : (ts : List Task) → Positive ts → (m : ℕ) → ((i : ℕ) → i < length ts → task ts i .period ∣ m) → hyperperiod ts ∣ m
+hyperperiod-least : (ts : List Task) → Positive ts → (m : ℕ) → ((i : ℕ) → i < length ts → task-in ts i .period ∣ m) → common-multiple ts ∣ m
 hyperperiod-least [] pos m c = one-dvd m
 hyperperiod-least (t ∷ ts) pos m c =
-    lcm-least (t .period) (hyperperiod ts) (pos 0 (omega arith)) m (c 0 (omega arith))
+    lcm-least (t .period) (common-multiple ts) (pos 0 (omega arith)) m (c 0 (omega arith))
     (hyperperiod-least ts (λ i l. pos (suc i) (omega arith)) m (λ i l. c (suc i) (omega arith)))
 
 -- the hyperperiod worked out is the hyperperiod
-pub hyperperiod-is : (ts : List Task) → Positive ts → IsHyperperiod ts (hyperperiod ts)
-hyperperiod-is ts pos = record { common = hyperperiod-common ts pos; least = hyperperiod-least ts pos }
+pub hyperperiod-is : (ts : Set) → Positive (ts .tasks) → IsHyperperiod ts (hyperperiod ts)
+hyperperiod-is ts pos = record { common = hyperperiod-common (ts .tasks) pos; least = hyperperiod-least (ts .tasks) pos }
 
 -- a set has one hyperperiod
-pub one-hyperperiod : {ts : List Task} {h h′ : ℕ} → IsHyperperiod ts h → IsHyperperiod ts h′ → h ≡ h′
+pub one-hyperperiod : {ts : Set} {h h′ : ℕ} → IsHyperperiod ts h → IsHyperperiod ts h′ → h ≡ h′
 one-hyperperiod {ts} {h} {h′} p q = dvd-antisymm (p .least h′ (q .common)) (q .least h (p .common))

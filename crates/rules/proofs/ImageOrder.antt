@@ -5,25 +5,23 @@ use mathlib.Core.Logic.{_↔_, _⊎_, inl, inr}
 use mathlib.Core.Bool.{Bool, true, false}
 use mathlib.Core.List.{List, [], _++_}
 use mathlib.Core.Option.{Option, none, some}
-use Prim.Native.Nat.{ℕ, suc, _<_}
-use native.Mathlib.Nat.{suc-add}
+use Prim.Native.Nat.{ℕ, _<_}
 use lib.Dec.{leb}
 use lib.ListN.{length}
 use borrow.Author.Tests.{leb-false, lt-leb}
-use Rattle.rules.specs.declared.Task.{Task}
 use Rattle.rules.specs.declared.Entry.{Entry}
 use Rattle.rules.specs.declared.Refusal.{Refusal}
 use Rattle.rules.specs.declared.CheckAnswer.the-variants as check-case
 use Rattle.rules.specs.declared.MakeAnswer.the-variants as make-case
 use Rattle.rules.specs.Refusals.{Judged, gives, refuses, refusal, or-else, then, first, unless, First}
-use Rattle.rules.specs.Tasks.{hyperperiod, set-fault, set-tests}
+use Rattle.rules.specs.Tasks.{Set, hyperperiod, set-fault, set-tests}
 use Rattle.rules.specs.Setting.{Tables}
 use Rattle.rules.specs.Priority.{setting}
 use Rattle.rules.specs.Decision.{replay}
 use Rattle.rules.specs.Judging.{timetable-fault, tables, judge-timetable, records-fault, tables-differ, compared, judge-tables}
 use Rattle.rules.specs.Order.{timetable-tests, record-tests, RefusesTables}
 use Rattle.rules.specs.Framing.{frame}
-use Rattle.rules.specs.Image.{timetable-image, table-image}
+use Rattle.rules.specs.Image.{timetable-image, table-image, head-count}
 use Rattle.rules.specs.Operations.{read-timetable, read-tables, derive-from, rebuild-from, derived, rebuilt, check-answer, check-timetable, check-tables, into, write-tables, write-timetable, derived-image, rebuilt-image, make-answer, output-after, derive, derive-output, rebuild, rebuild-output}
 use Rattle.rules.specs.Promised.{TimetableImage, TableImage, RefusesTimetableImage, RefusesTableImage}
 use Rattle.rules.proofs.Cases.{clash, first-none}
@@ -58,14 +56,14 @@ refused-before (gives a) f r e = clash (cc)
 refused-before (refuses s) f r e = cc
 
 -- a timetable is refused exactly as the first of the document's tests refuses it
-pub timetable-refused : (ts : List Task) (τ : List Entry) (r : Refusal) →
+pub timetable-refused : (ts : Set) (τ : List Entry) (r : Refusal) →
     (judge-timetable ts τ ≡ refuses r) ↔ First (set-tests ts ++ timetable-tests ts (hyperperiod ts) τ) (some r)
 timetable-refused ts τ r = (
   λ e. rw (refused-first (first (set-fault ts) (timetable-fault ts τ)) (tables ts τ) r e) at (judged-timetable-order ts τ),
   λ f. rw (one-first (judged-timetable-order ts τ) f),
 )
 
-module _ (ts : List Task) (X : Tables) where
+module _ (ts : Set) (X : Tables) where
   -- tables whose records no test refuses are refused by a late job in replay, or else by a difference
   after-records : (r : Refusal) → first (set-fault ts) (records-fault ts (hyperperiod ts) X) ≡ none →
       then (replay (setting ts) [] X) (compared ts X) ≡ refuses r → RefusesTables ts X r
@@ -74,9 +72,9 @@ module _ (ts : List Task) (X : Tables) where
       let f : First (set-tests ts ++ record-tests ts (hyperperiod ts) X) none = rw n at (judged-records-order ts X) in
       by-then (replay (setting ts) [] X) (compared ts X) r e
       (λ q. let (m, is, late) = refused-late ts X (a .0) (a .1) r q in rw is (RefusesTables.late-job f late))
-      (λ τ q d. let s = refused-first (tables-differ (suc (length ts)) X (tables ts τ)) τ r d in
-      let (m, is, differ) = differs-at (suc (length ts)) X (tables ts τ) r s in
-      rw (is, suc-add (length ts)) (RefusesTables.difference f (given-replays ts X (a .0) (a .1) τ q) differ))
+      (λ τ q d. let s = refused-first (tables-differ (head-count ts) X (tables ts τ)) τ r d in
+      let (m, is, differ) = differs-at (head-count ts) X (tables ts τ) r s in
+      rw is (RefusesTables.difference f (given-replays ts X (a .0) (a .1) τ q) differ))
 
   -- where no test refuses, the set and the records have no fault
   records-pass : First (set-tests ts ++ record-tests ts (hyperperiod ts) X) none → first (set-fault ts) (records-fault ts (hyperperiod ts) X) ≡ none
@@ -92,7 +90,7 @@ module _ (ts : List Task) (X : Tables) where
   refuses-judged (RefusesTables.difference {m = m} {τ = τ} f q differ) =
       let n = records-pass f in
       let a = first-none (set-fault ts) (records-fault ts (hyperperiod ts) X) n in
-      rw (n, replays-given ts X (a .0) (a .1) τ q, difference-found (suc (length ts)) X (tables ts τ) m differ, suc-add (length ts))
+      rw (n, replays-given ts X (a .0) (a .1) τ q, difference-found (head-count ts) X (tables ts τ) m differ)
 
   -- tables are refused exactly by a test, then by a late job in replay, then by a difference
   pub tables-refused : (r : Refusal) → (judge-tables ts X ≡ refuses r) ↔ RefusesTables ts X r
@@ -120,13 +118,13 @@ module _ (bytes : List ℕ) where
       by-then (read-timetable bytes) derive-from r (check-refuses (derived bytes) r e)
       (λ q. RefusesTimetableImage.by-framing (framing-order 1 bytes r .0 (refused-before (frame 1 bytes) _ r q)))
       (λ i q d. RefusesTimetableImage.by-a-test q
-      (timetable-refused (i .tasks) (i .entries) r .0 (refused-before (judge-timetable (i .tasks) (i .entries)) _ r d)))
+      (timetable-refused (i .set) (i .entries) r .0 (refused-before (judge-timetable (i .set) (i .entries)) _ r d)))
 
   -- and the other way round
   pub refuses-timetable : {r : Refusal} → RefusesTimetableImage bytes r → check-timetable bytes ≡ check-case.Refused r
   unfolding check-timetable
   refuses-timetable {r} (RefusesTimetableImage.by-framing q) = rw (framing-order 1 bytes r .1 q)
-  refuses-timetable {r} (RefusesTimetableImage.by-a-test {i = i} q f) = rw (q, timetable-refused (i .tasks) (i .entries) r .1 f)
+  refuses-timetable {r} (RefusesTimetableImage.by-a-test {i = i} q f) = rw (q, timetable-refused (i .set) (i .entries) r .1 f)
 
   -- checking a table image refuses as the document does
   pub table-refusals : (r : Refusal) → check-tables bytes ≡ check-case.Refused r → RefusesTableImage bytes r
@@ -135,13 +133,13 @@ module _ (bytes : List ℕ) where
       by-then (read-tables bytes) rebuild-from r (check-refuses (rebuilt bytes) r e)
       (λ q. RefusesTableImage.by-framing (framing-order 2 bytes r .0 (refused-before (frame 2 bytes) _ r q)))
       (λ i q d. RefusesTableImage.by-its-tables q
-      (tables-refused (i .tasks) (i .tables) r .0 (refused-before (judge-tables (i .tasks) (i .tables)) _ r d)))
+      (tables-refused (i .set) (i .tables) r .0 (refused-before (judge-tables (i .set) (i .tables)) _ r d)))
 
   -- and the other way round
   pub refuses-tables : {r : Refusal} → RefusesTableImage bytes r → check-tables bytes ≡ check-case.Refused r
   unfolding check-tables
   refuses-tables {r} (RefusesTableImage.by-framing q) = rw (framing-order 2 bytes r .1 q)
-  refuses-tables {r} (RefusesTableImage.by-its-tables {i = i} q f) = rw (q, tables-refused (i .tasks) (i .tables) r .1 f)
+  refuses-tables {r} (RefusesTableImage.by-its-tables {i = i} q f) = rw (q, tables-refused (i .set) (i .tables) r .1 f)
 
 -- a test that fails refuses with its number and its place
 unless-refuses : (b : Bool) (number place : ℕ) (r : Refusal) → unless b number place ≡ some r → (b ≡ false) × (r ≡ refusal number place)
@@ -182,7 +180,7 @@ module _ (bytes old : List ℕ) (r : Refusal) where
   unfolding check-timetable derive
   derive-refuses e =
       by-then (derived bytes) (write-tables (length old)) r (make-refuses (derived-image (length old) bytes) r e) (λ q. inl (rw q))
-      (λ i q d. inr (into-refuses (length old) (table-image (i .tasks) (i .tables)) r d .1, rw q))
+      (λ i q d. inr (into-refuses (length old) (table-image (i .set) (i .tables)) r d .1, rw q))
 
   -- it then leaves every byte of the output as it was
   pub derive-keeps : derive bytes old ≡ make-case.Refused r → derive-output bytes old ≡ old
@@ -200,14 +198,14 @@ module _ (bytes old : List ℕ) (r : Refusal) where
   unfolding check-tables rebuild
   rebuild-refuses e =
       by-then (rebuilt bytes) (write-timetable (length old)) r (make-refuses (rebuilt-image (length old) bytes) r e) (λ q. inl (rw q))
-      (λ i q d. inr (into-refuses (length old) (timetable-image (i .tasks) (i .entries)) r d .1, rw q))
+      (λ i q d. inr (into-refuses (length old) (timetable-image (i .set) (i .entries)) r d .1, rw q))
 
   -- it then leaves every byte of the output as it was
   pub rebuild-keeps : rebuild bytes old ≡ make-case.Refused r → rebuild-output bytes old ≡ old
   unfolding rebuild rebuild-output
   rebuild-keeps e = refusal-keeps (rebuilt-image (length old) bytes) old r e
 
-module _ {bytes : List ℕ} {ts : List Task} {τ : List Entry} (old : List ℕ) where
+module _ {bytes : List ℕ} {ts : Set} {τ : List Entry} (old : List ℕ) where
   -- deriving from an accepted image refuses exactly when the result is longer than the output
   pub derive-too-long : TimetableImage bytes ts τ → (derive bytes old ≡ make-case.Refused (refusal 20 0)) ↔ (length old < length (table-image ts (tables ts τ)))
   unfolding derive

@@ -8,10 +8,9 @@ use native.Mathlib.Omega.{arith}
 use lib.Dec.{leb}
 use lib.ListN.{length}
 use borrow.Author.Tests.{ltb-true, leb-true, eqb-false, lt-ltb, le-leb, ne-eqb}
-use Rattle.rules.specs.declared.Task.{Task}
 use Rattle.rules.specs.declared.Entry.{Entry}
 use Rattle.rules.specs.declared.Inversion.{Inversion}
-use Rattle.rules.specs.Tasks.{task, release, jobs, KeepsItsRule}
+use Rattle.rules.specs.Tasks.{Set, task, release, jobs, KeepsItsRule}
 use Rattle.rules.specs.Timetable.{entry-at}
 use Rattle.rules.specs.Setting.{lowest}
 use Rattle.rules.specs.Priority.{slot, start-job, is-left, waiting, by-priority, setting-of}
@@ -27,24 +26,24 @@ use Rattle.rules.proofs.RisingPairs.{inserted, kept, by-insert, pairs-r
 use Rattle.rules.proofs.Positions.{Before, at-first, past-end, an-entry, is-entry, at-next}
 use Rattle.rules.proofs.ForcedIdle.{releases-rise, not-below-slot, next-not-started}
 
-module _ (ts : List Task) (h : ℕ) (x : List ℕ) (s i : ℕ) where
+module _ (ts : Set) (h : ℕ) (x : List ℕ) (s i : ℕ) where
   -- a waiting task that the baseline does not run: a lower one is waiting
-  pub lower-waits : i < length ts → waiting ts h x s i ≡ true → runs (by-priority ts h x s) i ≡ false → (j : ℕ) × (j < i) × (waiting ts h x s j ≡ true)
+  pub lower-waits : i < length (ts .tasks) → waiting ts h x s i ≡ true → runs (by-priority ts h x s) i ≡ false → (j : ℕ) × (j < i) × (waiting ts h x s j ≡ true)
   lower-waits a-task w e =
-      by-option (lowest (length ts) (waiting ts h x s))
-      (λ n. differ (sym w ∙ none-lowest (length ts) 0 (waiting ts h x s) n i (omega arith) (omega arith)))
+      by-option (lowest (length (ts .tasks)) (waiting ts h x s))
+      (λ n. differ (sym w ∙ none-lowest (length (ts .tasks)) 0 (waiting ts h x s) n i (omega arith) (omega arith)))
       (λ k n. let ne : k ≡ i → ⊥ = eqb-false k i (rw n at e) in
-      by-le k i (λ le. (k, omega arith, lowest-from-some (length ts) 0 (waiting ts h x s) k n))
-      (λ gt. differ (sym w ∙ below-lowest (length ts) 0 (waiting ts h x s) k n i (omega arith) gt)))
+      by-le k i (λ le. (k, omega arith, lowest-from-some (length (ts .tasks)) 0 (waiting ts h x s) k n))
+      (λ gt. differ (sym w ∙ below-lowest (length (ts .tasks)) 0 (waiting ts h x s) k n i (omega arith) gt)))
 
   -- while a lower task is waiting the baseline does not run a task
-  pub not-run : i < length ts → (j : ℕ) → j < i → waiting ts h x s j ≡ true → runs (by-priority ts h x s) i ≡ false
+  pub not-run : i < length (ts .tasks) → (j : ℕ) → j < i → waiting ts h x s j ≡ true → runs (by-priority ts h x s) i ≡ false
   not-run a-task j lt w =
-      by-option (lowest (length ts) (waiting ts h x s))
-      (λ n. rw n (ne-eqb (length ts) i (omega arith)))
-      (λ k n. rw n (ne-eqb k i (λ q. differ (sym w ∙ below-lowest (length ts) 0 (waiting ts h x s) k n j (omega arith) (omega arith)))))
+      by-option (lowest (length (ts .tasks)) (waiting ts h x s))
+      (λ n. rw n (ne-eqb (length (ts .tasks)) i (omega arith)))
+      (λ k n. rw n (ne-eqb k i (λ q. differ (sym w ∙ below-lowest (length (ts .tasks)) 0 (waiting ts h x s) k n j (omega arith) (omega arith)))))
 
-module _ (ts : List Task) (h : ℕ) where
+module _ (ts : Set) (h : ℕ) where
   -- a next job that is left and released is waiting
   pub next-waits : (x : List ℕ) (s i : ℕ) → slot x i < jobs h (task ts i) → release (task ts i) (slot x i) ≤ s → waiting ts h x s i ≡ true
   next-waits x s i a-job released = both-in (is-left ts h x i) (leb (release (task ts i) (slot x i)) s) (lt-ltb _ _ a-job) (le-leb _ _ released)

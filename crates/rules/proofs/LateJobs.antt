@@ -7,16 +7,15 @@ use mathlib.Core.Option.{none}
 use Prim.Native.Nat.{ℕ, zero, suc, _+_, _≤_, _<_}
 use native.Mathlib.Omega.{arith}
 use lib.ListN.{length}
-use Rattle.rules.specs.declared.Task.{Task}
 use Rattle.rules.specs.declared.Entry.{Entry}
 use Rattle.rules.specs.declared.Idle.{Idle}
 use Rattle.rules.specs.declared.Inversion.{Inversion}
 use Rattle.rules.specs.declared.Refusal.{Refusal}
 use Rattle.rules.specs.Refusals.{Judged, gives, refuses, refusal}
-use Rattle.rules.specs.Tasks.{task, due, jobs, hyperperiod, KeepsItsRule, set-fault}
+use Rattle.rules.specs.Tasks.{Set, task, due, jobs, hyperperiod, KeepsItsRule, set-fault}
 use Rattle.rules.specs.Setting.{Setting, Tables, instant}
 use Rattle.rules.specs.Priority.{slot, all-started, late, entry-breaks, setting-of, setting}
-use Rattle.rules.specs.Decision.{Choice, idle-for, start-task, later-idles, start-before, replay-from, replay}
+use Rattle.rules.specs.Decision.{Choice, idle-for, start-task, wait-till, later-idles, start-before, replay-from, replay}
 use Rattle.rules.specs.DecisionRule.{Waiting, Replaying, cycle-start, after-idling, after-starting, TooLate, DecidesNext, Replays}
 use Rattle.rules.specs.Judging.{inversion-in-range, records-fault}
 use Rattle.rules.specs.Order.{LateAfter, late-now, after-idle, after-start}
@@ -25,14 +24,14 @@ use Rattle.rules.proofs.RoundTrip.{decided-by, turn-idles, turn-starts,
 use Rattle.rules.proofs.Theory.{Pairs}
 use Rattle.rules.proofs.Derived.{Every}
 use Rattle.rules.proofs.Replayed.{by-decision}
-use Rattle.rules.proofs.Decided.{started-waits, job-left, instant-next, next-instant, tables-decide}
-use Rattle.rules.proofs.PriorityLaws.{StartKeepsRules, keeps-rules, breaks-none, priority-runs, ends-in-cycle}
+use Rattle.rules.proofs.Decided.{started-waits, rule-never-waits, job-left, instant-next, next-instant, tables-decide}
+use Rattle.rules.proofs.PriorityLaws.{StartKeepsRules, keeps-rules, breaks-none, ends-in-cycle}
 use Rattle.rules.proofs.GoodSets.{good-set, good-rules}
 use Rattle.rules.proofs.PossibleStates.{none-left, all-have-started}
 use Rattle.rules.proofs.Records.{RecordsKeepRules, records-keep}
 use Rattle.rules.proofs.Turns.{InRange, rising-in-range, idles-within}
 
-module _ (ts : List Task) (h : ℕ) where
+module _ (ts : Set) (h : ℕ) where
   -- a waiting job that does not end late keeps all rules
   pub waits-keeps : (x : List ℕ) (t i : ℕ) → Waiting ts h x t i → (due (task ts i) (slot x i) < t + task ts i .time → ⊥) → StartKeepsRules ts h x t i t
   waits-keeps x t i w n =
@@ -49,12 +48,7 @@ module _ (ts : List Task) (h : ℕ) where
   ends-late x t i l =
       by-nat (entry-breaks ts h x t i t) (λ e. absurd (omega (arith, keeps-rules ts h x t i t e .in-time))) (λ n e. rw e)
 
--- what replay reports of a start that breaks a rule is 18
-pub late-number : (broken number : ℕ) → late broken ≡ suc number → suc number ≡ 18
-late-number zero number e = clash (cc)
-late-number (suc broken) number e = sym e
-
-module _ (ts : List Task) (p : List Inversion) (good : set-fault ts ≡ none) (pairs : Pairs 0 0 p) (ranges : Every (inversion-in-range ts (hyperperiod ts)) p) where
+module _ (ts : Set) (p : List Inversion) (good : set-fault ts ≡ none) (pairs : Pairs 0 0 p) (ranges : Every (inversion-in-range ts (hyperperiod ts)) p) where
   keep : (i : ℕ) → KeepsItsRule (task ts i)
   keep = good-rules (good-set ts good)
 
@@ -120,19 +114,19 @@ module _ (ts : List Task) (p : List Inversion) (good : set-fault ts ≡ none) (p
   -- where it comes to the end of the cycle, it gives its starts
   pub replays-given-from : {a : Replaying} {τ : List Entry} → Replays ts h p a τ → (turns : ℕ) → Reaches turns a → from turns a ≡ gives τ
   replays-given-from r zero k = absurd (omega arith)
-  replays-given-from (Replays.ends {a = a} e) (suc turns) k = let o = all-have-started h ts (a .next) e in rw (o, replay-from)
+  replays-given-from (Replays.ends {a = a} e) (suc turns) k = let o = all-have-started h (ts .tasks) (a .next) e in rw (o, replay-from)
   replays-given-from (Replays.idles q d r) (suc turns) k = let w = idle-turn q d k in w .1 ∙ replays-given-from r turns (w .0)
   replays-given-from (Replays.starts {t = t} {i = i} d n r) (suc turns) k =
       let w = start-turn d n k in w .1 ∙ ap (start-before (record { task = i; start = t })) (replays-given-from r turns (w .0))
 
   -- replay stands at the end, or it idles, starts a job, or comes to one that is too late
-  by-rule : {A : Type 0} (a : Replaying) → (((i : ℕ) → i < length ts → jobs h (task ts i) ≤ slot (a .next) i) → A) →
+  by-rule : {A : Type 0} (a : Replaying) → (((i : ℕ) → i < length (ts .tasks) → jobs h (task ts i) ≤ slot (a .next) i) → A) →
       ((t : ℕ) (r : Idle) (behind : List Idle) → a .unused ≡ r ∷ behind → DecidesNext ts h p a t (idle-for (r .length)) → A) →
       ((t i : ℕ) → DecidesNext ts h p a t (start-task i) → (TooLate ts (a .next) i t → ⊥) → A) →
       ((t i : ℕ) → DecidesNext ts h p a t (start-task i) → TooLate ts (a .next) i t → A) → A
   by-rule {A} a ended idling starting too-late =
       let t : ℕ = instant G (a .next) (a .free) in
-      by-bool (all-started h ts (a .next)) (λ o. ended (none-left h ts (a .next) o))
+      by-bool (all-started h (ts .tasks) (a .next)) (λ o. ended (none-left h ts (a .next) o))
       (λ o.
       let n = instant-next ts h keep (a .next) (a .free) o in
       let next : (c : Choice) → decided-by G (a .next) t (a .unused) p ≡ c → DecidesNext ts h p a t c =
@@ -141,7 +135,7 @@ module _ (ts : List Task) (p : List Inversion) (good : set-fault ts ≡ none) (p
       λ i d. by-le (t + task ts i .time) (due (task ts i) (slot (a .next) i)) (λ l. starting t i (next (start-task i) d) (λ k. omega arith))
       (λ l. too-late t i (next (start-task i) d) l) in
       by-decision G (a .next) t (a .unused) p (λ r behind q s d. idling t r behind q (next (idle-for (r .length)) d)) (λ i s d. start i d)
-      (λ i b d. start i d) (λ w b d. absurd (priority-runs ts h (a .next) t w b)))
+      (λ i b d. start i d) (λ w b d. absurd (rule-never-waits ts h (next (wait-till w) d .decides) refl)))
 
   -- replay comes to the end of the cycle or to a late job
   comes-to : (turns : ℕ) (a : Replaying) → Reaches turns a → ((τ : List Entry) × Replays ts h p a τ) ⊎ ((m : ℕ) × LateAfter ts h p a m)
@@ -162,7 +156,7 @@ module _ (ts : List Task) (p : List Inversion) (good : set-fault ts ≡ none) (p
       begun t i d n (inl w) = inl (record { task = i; start = t } ∷ w .0, Replays.starts d n (w .1))
       begun t i d n (inr w) = inr (suc (w .0), after-start d n (w .1))
 
-module _ (ts : List Task) (X : Tables) (good : set-fault ts ≡ none) (records : records-fault ts (hyperperiod ts) X ≡ none) where
+module _ (ts : Set) (X : Tables) (good : set-fault ts ≡ none) (records : records-fault ts (hyperperiod ts) X ≡ none) where
   kept : RecordsKeepRules ts (hyperperiod ts) X
   kept = records-keep ts (hyperperiod ts) X records
 

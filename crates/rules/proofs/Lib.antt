@@ -3,6 +3,7 @@ pub mod Theory
 pub mod Lowest
 pub mod Pairs
 pub mod Steps
+pub mod Gaps
 pub mod RoundTrip
 pub mod Derived
 pub mod Replayed
@@ -44,7 +45,11 @@ pub mod PossibleStates
 pub mod GoingOnOrder
 pub mod BeginOrder
 pub mod Shown
+pub mod FirstDifferences
+pub mod UsedIdles
 pub mod Starts
+pub mod NextToStart
+pub mod NextJobs
 pub mod Slots
 pub mod SlotsAbove
 pub mod ShownAt
@@ -52,6 +57,7 @@ pub mod StandingTables
 pub mod OneMoreStart
 pub mod Serving
 pub mod OffsetReplay
+pub mod KeptOffsets
 pub mod WastedRecords
 pub mod ServedCalls
 pub mod AcceptedTables

@@ -1,16 +1,16 @@
 -- The order of refusals of deriving and rebuilding: what refuses the image, then 20. And what they leave, from the two images of one timetable.
 -- Assumes nothing.
 use mathlib.Core.Path.{_≡_, refl, sym, _∙_, ap}
-use mathlib.Core.Logic.{_↔_, _⊎_, inl, inr}
+use mathlib.Core.Logic.{_↔_, inl, inr}
 use mathlib.Core.List.{List, _++_}
-use Prim.Native.Nat.{ℕ, _≤_, _<_}
+use Prim.Native.Nat.{ℕ, _≤_}
 use native.Mathlib.Omega.{arith}
 use lib.ListN.{length, drop}
 use Rattle.fields.specs.Number.{Bytes}
-use Rattle.rules.specs.declared.Task.{Task}
 use Rattle.rules.specs.declared.Entry.{Entry}
 use Rattle.rules.specs.declared.Refusal.{Refusal}
 use Rattle.rules.specs.declared.MakeAnswer.the-variants.{Made, Refused}
+use Rattle.rules.specs.Tasks.{Set}
 use Rattle.rules.specs.Judging.{tables}
 use Rattle.rules.specs.Image.{timetable-image, table-image}
 use Rattle.rules.specs.Operations.{into, derived-image, rebuilt-image, derive, derive-output, rebuild, rebuild-output}
@@ -20,9 +20,9 @@ use Rattle.rules.proofs.Demand2 as demand2
 use Rattle.rules.proofs.ImageOrder as order
 
 -- a timetable image, and the image of its tables
-pub with-its-tables : {bytes : List ℕ} {ts : List Task} {τ : List Entry} → TimetableImage bytes ts τ → BothImages bytes (table-image ts (tables ts τ))
+pub with-its-tables : {bytes : List ℕ} {ts : Set} {τ : List Entry} → TimetableImage bytes ts τ → BothImages bytes (table-image ts (tables ts τ))
 with-its-tables {bytes} {ts} {τ} t = record {
-  tasks = ts;
+  set = ts;
   entries = τ;
   timetable = t;
   tables = record {
@@ -36,16 +36,16 @@ with-its-tables {bytes} {ts} {τ} t = record {
 }
 
 -- a table image, and the image of the timetable behind it
-pub with-its-timetable : {bytes : List ℕ} {ts : List Task} {τ : List Entry} → TableImage bytes ts τ → BothImages (timetable-image ts τ) bytes
+pub with-its-timetable : {bytes : List ℕ} {ts : Set} {τ : List Entry} → TableImage bytes ts τ → BothImages (timetable-image ts τ) bytes
 with-its-timetable {bytes} {ts} {τ} t = record {
-  tasks = ts;
+  set = ts;
   entries = τ;
   timetable = record { h = t .h; good = t .good; valid = t .valid; is = refl };
   tables = t;
 }
 
 -- the image of a timetable's tables is that of the derived ones
-pub its-table-image : {bytes result : List ℕ} (b : BothImages bytes result) → result ≡ table-image (b .tasks) (tables (b .tasks) (b .entries))
+pub its-table-image : {bytes result : List ℕ} (b : BothImages bytes result) → result ≡ table-image (b .set) (tables (b .set) (b .entries))
 its-table-image b = demand2.tables-are (b .tables)
 
 module _ (bytes old : List ℕ) {result : List ℕ} where

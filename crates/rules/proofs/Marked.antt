@@ -1,17 +1,18 @@
 -- The mark at the front of bytes: the table has each mark's two bytes once, and a mark is found exactly where it is allowed. Assumes nothing.
-use mathlib.Core.Path.{_≡_, refl, sym, _∙_, ap₂}
-use mathlib.Core.Bool.{true}
+use mathlib.Core.Path.{_≡_, refl, sym, _∙_, ap₂, subst}
+use mathlib.Core.Logic.{_⊎_, inl, inr}
+use mathlib.Core.Bool.{true, false}
 use mathlib.Core.List.{List, [], _∷_}
 use mathlib.Core.Option.{Option, none, some}
-use Prim.Native.Nat.{ℕ, _≤_, _<_}
+use Prim.Native.Nat.{ℕ, suc, _≤_, _<_}
 use native.Mathlib.Omega.{arith}
 use lib.Dec.{ltb, eqb}
 use lib.ListN.{getD}
 use borrow.Author.Tests.{ltb-true, ltb-false, leb-true, eqb-true}
 use Rattle.rules.specs.declared.Place.{Place}
 use Rattle.rules.specs.Tasks.{both}
-use Rattle.rules.specs.Marks.{Mark, TS, TK, SL, ID, PV, EN, row, marks, mark-in}
-use Rattle.rules.specs.Framing.{in-kind, may-follow, allowed, if-allowed, mark-at, Allowed}
+use Rattle.rules.specs.Marks.{Mark, TS, TK, SL, ID, PV, EN, Class, head-class, task-class, option-class, listed-class, inversion-class, end-class, Row, row, marks, mark-in}
+use Rattle.rules.specs.Framing.{in-kind, may-follow, allowed, if-allowed, mark-at, least-behind, Allowed}
 use Rattle.rules.proofs.Cases.{by-bool, clash, both-true, both-in}
 
 -- a mark's bytes are found as that mark
@@ -31,6 +32,37 @@ mark-bytes SL = omega arith
 mark-bytes ID = omega arith
 mark-bytes PV = omega arith
 mark-bytes EN = omega arith
+
+-- the marks of each class
+abbrev pub OfClass : Class → Mark → Type 0
+OfClass head-class m = m ≡ TS
+OfClass task-class m = m ≡ TK
+OfClass option-class m = ⊥
+OfClass listed-class m = (m ≡ SL) ⊎ (m ≡ ID)
+OfClass inversion-class m = m ≡ PV
+OfClass end-class m = m ≡ EN
+
+of-class : (m : Mark) → OfClass (row m .class) m
+of-class TS = refl
+of-class TK = refl
+of-class SL = inl refl
+of-class ID = inr refl
+of-class PV = refl
+of-class EN = refl
+
+pub in-class : (m : Mark) (c : Class) → row m .class ≡ c → OfClass c m
+in-class m c e = subst (λ (d : Class). OfClass d m) e (of-class m)
+
+-- the least rank behind a record, by whether it stands at most once
+pub behind-once : (r : Row) → r .once ≡ true → suc (r .rank) ≡ least-behind r
+behind-once r e = rw e
+
+pub behind-many : (r : Row) → r .once ≡ false → r .rank ≡ least-behind r
+behind-many r e = rw e
+
+-- it is not below the record's own
+pub not-lower : (r : Row) → r .rank ≤ least-behind r
+not-lower r = by-bool (r .once) (λ e. omega (arith, behind-once r e)) (λ e. omega (arith, behind-many r e))
 
 -- bytes that are found as a mark are that mark's
 found-mark : (ms : List Mark) (a b : ℕ) (m : Mark) → mark-in ms a b ≡ some m → (a ≡ row m .byte₁) × (b ≡ row m .byte₂)

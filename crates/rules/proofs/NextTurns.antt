@@ -7,21 +7,20 @@ use Prim.Native.Nat.{ℕ, zero, suc, _+_, _≤_, _<_}
 use native.Mathlib.Omega.{arith}
 use lib.Dec.{leb}
 use borrow.Author.Tests.{ltb-true, leb-true}
-use Rattle.rules.specs.declared.Task.{Task}
 use Rattle.rules.specs.declared.Idle.{Idle}
 use Rattle.rules.specs.declared.Inversion.{Inversion}
-use Rattle.rules.specs.Tasks.{hyperperiod}
+use Rattle.rules.specs.Tasks.{Set, hyperperiod}
 use Rattle.rules.specs.Setting.{Setting, wait, instant}
 use Rattle.rules.specs.Priority.{entry-breaks, setting}
-use Rattle.rules.specs.Decision.{Choice, idle-for, start-task, decide}
+use Rattle.rules.specs.Decision.{Choice, idle-for, start-task, wait-till, decide}
 use Rattle.rules.specs.Judging.{idle-in-range, inversion-in-range}
 use Rattle.rules.specs.Marks.{Mark, TS, TK, SL, ID, PV, EN, size}
 use Rattle.rules.specs.Image.{Record, to-idle, to-inversion}
 use Rattle.rules.specs.Offsets.{Shown, unreadable, no-record, shows, Source, record-at, shown-if, idle-by, idle-in, inversion-by, inversion-in, lent, idle-now, Standing, next-is, stuck, all-readable, shown-delays, shown-step, idled, waited, next-start-in, next-start}
 use Rattle.rules.proofs.Cases.{by-bool, by-choice, by-nat, by-step, clash, both-true}
-use Rattle.rules.proofs.Steps.{decide-idles, decide-waits, step-idles, step-starts, step-refuses, idles-forward, waits-forward, starts-forward}
+use Rattle.rules.proofs.Steps.{decide-idles, step-idles, step-past, step-starts, step-refuses, idles-forward, waits-forward, starts-forward}
 use Rattle.rules.proofs.Replayed.{idle-at-some}
-use Rattle.rules.proofs.PriorityLaws.{late-zero, StartKeepsRules, keeps-rules, priority-runs}
+use Rattle.rules.proofs.PriorityLaws.{late-zero, StartKeepsRules, keeps-rules, waits-later}
 
 -- a source that shows only idle records in their own range
 abbrev pub IdlesInRange : ℕ → Source → Type 0
@@ -82,7 +81,7 @@ next-breaks-none G S (suc turns) a i t o e =
     (λ read. let g : stuck 25 ≡ next-is i t o = rw (read, next-start-in) at e in clash (cc))
 
 -- so that it is of a task of the set, which has a job left, released and in time; also where nobody has judged the records
-pub next-keeps-rules : (bytes : List ℕ) (ts : List Task) (a : Standing (List ℕ)) (i t o : ℕ) →
+pub next-keeps-rules : (bytes : List ℕ) (ts : Set) (a : Standing (List ℕ)) (i t o : ℕ) →
     next-start (setting ts) (lent bytes ts) a ≡ next-is i t o → StartKeepsRules ts (hyperperiod ts) (a .next) t i t
 next-keeps-rules bytes ts a i t o e =
     keeps-rules ts (hyperperiod ts) (a .next) t i t
@@ -99,7 +98,7 @@ shown-if-none true r w e = clash (cc)
 shown-if-none false r w e = clash (cc)
 
 -- an image lent shows only idle records in their own range
-pub lent-in-range : (bytes : List ℕ) (ts : List Task) → IdlesInRange (hyperperiod ts) (lent bytes ts)
+pub lent-in-range : (bytes : List ℕ) (ts : Set) → IdlesInRange (hyperperiod ts) (lent bytes ts)
 lent-in-range bytes ts o r after e = in-record (record-at bytes o) e
   where
     in-mark : (m : Mark) (v : List ℕ) → idle-by ts o m v ≡ shows r after → (1 ≤ r .length) × (r .start + r .length < hyperperiod ts)
@@ -117,7 +116,7 @@ lent-in-range bytes ts o r after e = in-record (record-at bytes o) e
     in-record (some c) e = in-mark (c .mark) (c .values) e
 
 -- and only inversion records in theirs
-pub lent-inversion-in-range : (bytes : List ℕ) (ts : List Task) (o : ℕ) (r : Inversion) (after : ℕ) → lent bytes ts .inversion-shown o ≡ shows r after →
+pub lent-inversion-in-range : (bytes : List ℕ) (ts : Set) (o : ℕ) (r : Inversion) (after : ℕ) → lent bytes ts .inversion-shown o ≡ shows r after →
     inversion-in-range ts (hyperperiod ts) r ≡ true
 lent-inversion-in-range bytes ts o r after e = in-record (record-at bytes o) e
   where
@@ -134,12 +133,8 @@ lent-inversion-in-range bytes ts o r after e = in-record (record-at bytes o) e
     in-record none e = clash (cc)
     in-record (some c) e = in-mark (c .mark) (c .values) e
 
--- the lowest waiting task starts: there is no waiting for a later instant
-never-waits : (ts : List Task) (x : List ℕ) (t r : ℕ) → setting ts .baseline x t ≡ wait r → t < r
-never-waits ts x t r e = absurd (priority-runs ts (hyperperiod ts) x t r e)
-
--- document 01's setting over an image lent: one turn, at the instant t of its decision
-module _ (bytes : List ℕ) (ts : List Task) (a : Standing (List ℕ)) (t : ℕ) (now : instant (setting ts) (a .next) (a .free) ≡ t) where
+-- a set's setting over an image lent: one turn, at the instant t of its decision
+module _ (bytes : List ℕ) (ts : Set) (a : Standing (List ℕ)) (t : ℕ) (now : instant (setting ts) (a .next) (a .free) ≡ t) where
   abbrev G : Setting
   G = setting ts
 
@@ -168,7 +163,7 @@ module _ (bytes : List ℕ) (ts : List Task) (a : Standing (List ℕ)) (t : ℕ)
   next-idles l e d =
       let w = idle-ends l d in
       rw (e, step-idles G (a .next) (a .free) t idle-shown delay-shown now l d, next-start-in)
-      (enough-turns G S (lent-in-range bytes ts) (never-waits ts) (omega arith) (hyperperiod ts) (suc (hyperperiod ts)) (idled G S a (t + l)) (omega arith)
+      (enough-turns G S (lent-in-range bytes ts) (waits-later ts (hyperperiod ts)) (omega arith) (hyperperiod ts) (suc (hyperperiod ts)) (idled G S a (t + l)) (omega arith)
       (omega arith) (omega arith) (omega arith))
 
   -- a task's next job starts
@@ -181,15 +176,21 @@ module _ (bytes : List ℕ) (ts : List Task) (a : Standing (List ℕ)) (t : ℕ)
       G .breaks-in-replay (a .next) t i t ≡ suc number → next-start G S a ≡ stuck (suc number)
   next-refused i number e d b = rw (e, step-refuses G (a .next) (a .free) t idle-shown delay-shown now i number d b, next-start-in)
 
+  -- a wait past the end of the cycle is refused
+  pub next-past : (r : ℕ) → all-readable G S (a .offsets) (a .idle) ≡ true → shown-choice G S a t ≡ wait-till r → hyperperiod ts ≤ r →
+      next-start G S a ≡ stuck 18
+  next-past r e d l = rw (e, step-past G (a .next) (a .free) t idle-shown delay-shown now r d l, next-start-in)
+
   -- how a turn comes out
   pub by-one-turn : {A : Type 0} → (all-readable G S (a .offsets) (a .idle) ≡ false → A) →
       ((l : ℕ) → all-readable G S (a .offsets) (a .idle) ≡ true → shown-choice G S a t ≡ idle-for l → A) →
       ((i : ℕ) → all-readable G S (a .offsets) (a .idle) ≡ true → shown-choice G S a t ≡ start-task i → G .breaks-in-replay (a .next) t i t ≡ 0 → A) →
       ((i number : ℕ) → all-readable G S (a .offsets) (a .idle) ≡ true → shown-choice G S a t ≡ start-task i →
-      G .breaks-in-replay (a .next) t i t ≡ suc number → A) → A
-  by-one-turn unread idles starts refuses =
+      G .breaks-in-replay (a .next) t i t ≡ suc number → A) →
+      ((r : ℕ) → all-readable G S (a .offsets) (a .idle) ≡ true → shown-choice G S a t ≡ wait-till r → A) → A
+  by-one-turn unread idles starts refuses waits =
       by-bool (all-readable G S (a .offsets) (a .idle))
       (λ e. by-choice (shown-choice G S a t) (λ l d. idles l e d)
       (λ i d. by-nat (G .breaks-in-replay (a .next) t i t) (λ b. starts i e d b) (λ number b. refuses i number e d b))
-      (λ r d. absurd (priority-runs ts (hyperperiod ts) (a .next) t r (decide-waits G (a .next) t (idle-shown t) delay-shown r d))))
+      (λ r d. waits r e d))
       unread

@@ -9,47 +9,46 @@ use native.Mathlib.Nat.{zero-add}
 use lib.Dec.{ltb}
 use lib.ListN.{length, replicate, length-append}
 use borrow.Author.Tests.{ltb-true, ltb-false, eq-eqb}
-use Rattle.rules.specs.declared.Task.{Task}
 use Rattle.rules.specs.declared.Entry.{Entry}
 use Rattle.rules.specs.declared.Idle.{Idle}
 use Rattle.rules.specs.declared.Inversion.{Inversion}
+use Rattle.rules.specs.declared.Refusal.{Refusal}
 use Rattle.rules.specs.Refusals.{gives, refuses, refusal}
-use Rattle.rules.specs.Tasks.{limits, task, release, jobs, all-jobs, hyperperiod, set-fault}
-use Rattle.rules.specs.Setting.{Tables, run, instant}
-use Rattle.rules.specs.Priority.{slot, start-job, all-started, late, entry-breaks, by-priority, setting}
-use Rattle.rules.specs.Irregularities.{at-most, insert, runs, gap, forced-idles, inversion-of, inversions}
-use Rattle.rules.specs.Decision.{idle-for, start-task, delay-of, later-idles, start-before, replay-from, replay}
+use Rattle.rules.specs.Tasks.{Set, limits, task, release, jobs, all-jobs, hyperperiod, set-fault}
+use Rattle.rules.specs.Setting.{Setting, Tables, run}
+use Rattle.rules.specs.Priority.{slot, start-job, all-started, setting}
+use Rattle.rules.specs.Irregularities.{at-most, insert, runs, inversion-of, inversions}
+use Rattle.rules.specs.Decision.{is-of, start-task, delay-of, replay-from, replay}
 use Rattle.rules.specs.Judging.{idle-in-range, inversion-in-range}
 use Rattle.rules.specs.Marks.{Mark, TS, TK, SL, ID, PV, EN, size}
-use Rattle.rules.specs.Image.{Record, to-idle, to-inversion}
-use Rattle.rules.specs.Offsets.{Shown, unreadable, no-record, shows, last-offset, record-at, shown-if, idle-by, idle-in, inversion-by, inversion-in, lent, is-of, own-delay, past-own, past-idle, standing, next-is, stuck, next-start, moved, tables-offset, lower-before, first-offsets}
+use Rattle.rules.specs.Image.{Record, to-idle, to-inversion, head-length}
+use Rattle.rules.specs.Offsets.{Shown, unreadable, no-record, shows, record-at, shown-if, idle-by, idle-in, inversion-by, inversion-in, lent, own-delay, past-own, standing, next-is, stuck, next-start, moved, lower-before, first-offsets}
 use Rattle.rules.specs.Dispatcher.{zeros, counts-possible}
-use Rattle.rules.proofs.Cases.{by-bool, by-option, by-eq, by-pair, by-nat, differ, clash}
+use Rattle.rules.proofs.Cases.{by-bool, by-option, by-eq, by-pair, differ, clash}
 use Rattle.rules.proofs.Theory.{Rising, Pairs}
 use Rattle.rules.proofs.Lowest.{lowest-from-some}
-use Rattle.rules.proofs.Pairs.{at-most-le, delay-here, delay-there, delay-bound, delay-insert-same, idle-path}
-use Rattle.rules.proofs.RoundTrip.{decided-by, recorded-some, turn-idles, turn-starts, turn-refuses}
-use Rattle.rules.proofs.Derived.{rising-from}
+use Rattle.rules.proofs.Pairs.{at-most-le, delay-here, delay-there, delay-bound, delay-insert-same}
+use Rattle.rules.proofs.RoundTrip.{decided-by, recorded-some}
 use Rattle.rules.proofs.Replayed.{by-decision}
-use Rattle.rules.proofs.PriorityLaws.{slot-empty, slot-start-same, slot-start-other, StartKeepsRules, keeps-rules, breaks-none, priority-runs, ends-in-cycle}
+use Rattle.rules.proofs.PriorityLaws.{slot-empty, slot-start-same, slot-start-other, StartKeepsRules, keeps-rules}
 use Rattle.rules.proofs.Arrays.{slot-zeros}
-use Rattle.rules.proofs.GoodSets.{good-set, good-rules}
 use Rattle.rules.proofs.ValidTimetables.{jobs-left, all-left, none-left, one-left}
 use Rattle.rules.proofs.JudgedTables.{laws}
-use Rattle.rules.proofs.Turns.{InRange, rising-in-range, turns-enough}
-use Rattle.rules.proofs.LateJobs.{late-number}
-use Rattle.rules.proofs.ForcedIdle.{no-gap, whole-gap}
-use Rattle.rules.proofs.NextTurns.{next-idles, next-starts, next-refused, shown-if-none}
-use Rattle.rules.proofs.Shown.{ShowsIdles, an-idle, own-as-table, slot-put-same, slot-put-other, not-both, own-behind, lower-behind, other-ahead}
-use Rattle.rules.proofs.Starts.{Placed, past-idle-shown, decided-as-table, readable-at, placed-moved}
-use Rattle.rules.proofs.Slots.{Same, replay-same, start-same, priority-same, counts-zero, counts-start}
+use Rattle.rules.proofs.Records.{keep-records}
+use Rattle.rules.proofs.LateJobs.{refused-late}
+use Rattle.rules.proofs.NextTurns.{shown-if-none}
+use Rattle.rules.proofs.Shown.{ShowsIdles, own-as-table, slot-put-same, slot-put-other, not-both, own-behind, lower-behind, other-ahead}
+use Rattle.rules.proofs.Starts.{Placed, placed-moved}
+use Rattle.rules.proofs.NextToStart.{Comes, comes-next}
+use Rattle.rules.proofs.NextJobs.{replay-same}
+use Rattle.rules.proofs.Slots.{Same, start-same, by-slots, counts-zero, counts-start}
 use Rattle.rules.proofs.PossibleStates.{counts-say}
 use Rattle.rules.proofs.ShownAt.{is-lower, is-not-lower, slot-first, Stand, first-idles, first-inversions}
-use Rattle.rules.proofs.OneMoreStart.{starts-before, starts-before-more, starts-before-end, starts-before-refusal, after-starts, after-one-more, jobs-left-same, forced-idles-same, inversions-other, inversions-own}
+use Rattle.rules.proofs.OneMoreStart.{starts-before, starts-before-more, starts-before-end, starts-before-refusal, after-starts, after-one-more, jobs-left-same, inversions-other, inversions-own}
 
 -- the offset of the first PV, or of EN where there is none
-abbrev pub first-inversion-offset : List Task → Tables → ℕ
-first-inversion-offset ts X = tables-offset ts + length (X .idles) * size ID
+abbrev pub first-inversion-offset : Set → Tables → ℕ
+first-inversion-offset ts X = head-length ts + length (X .idles) * size ID
 
 -- the number of a table's records before a pair (task, job)
 abbrev pub before-pair : ℕ → ℕ → List Inversion → ℕ
@@ -108,9 +107,9 @@ shown-if-after : {B : Type 0} (b : Bool) (r r′ : B) (w w′ : ℕ) → shown-i
 shown-if-after true r r′ w w′ e = cc
 shown-if-after false r r′ w w′ e = clash (cc)
 
-module _ (bytes : List ℕ) (ts : List Task) (o : ℕ) where
+module _ (bytes : List ℕ) (ts : Set) (o : ℕ) where
   -- behind an ID that is shown stands the next record
-  idle-after : (r : Idle) (after : ℕ) → lent bytes ts .idle-shown o ≡ shows r after → after ≡ o + size ID
+  pub idle-after : (r : Idle) (after : ℕ) → lent bytes ts .idle-shown o ≡ shows r after → after ≡ o + size ID
   idle-after r after e = in-record (record-at bytes o) e
     where
       in-mark : (m : Mark) (v : List ℕ) → idle-by ts o m v ≡ shows r after → after ≡ o + size ID
@@ -156,229 +155,92 @@ past-with no-record i k o d h e = clash (cc)
 past-with (shows r after) i k o d h e =
     by-bool (is-of r i k) (λ b. rw (b, past-own) (h r after refl)) (λ b. let g : none ≡ some d = rw (b, own-delay) at e in clash (cc))
 
--- an offset that shows the first of idle records moves behind it
-past-first-idle : (bytes : List ℕ) (ts : List Task) {o : ℕ} {r : Idle} {idles : List Idle} → ShowsIdles (lent bytes ts) o (r ∷ idles) →
-    past-idle (lent bytes ts .idle-shown o) o ≡ o + size ID
-past-first-idle bytes ts {o} {r} (an-idle {after = after} e s) = rw e (idle-after bytes ts o r after e)
-
--- behind records that rise the later ones rise
-rising-behind : (h earliest : ℕ) (k rest : List Idle) → Rising h earliest (k ++ rest) → Rising h 0 rest
-rising-behind h earliest [] rest z = rising-from h earliest 0 rest (omega arith) z
-rising-behind h earliest (r ∷ k) rest z = rising-behind h (suc (r .start + r .length)) k rest (z .3)
-
--- replay goes on after the next start: which idle records it used, why the job starts, and what the ID offset shows then
-pub record NextReplayed (bytes : List ℕ) (ts : List Task) (p : List Inversion) (x : List ℕ) (f o : ℕ) (idles : List Idle) (i t w : ℕ) : Type 0 where
-  pub idles-left : List Idle
-  pub idles-used : idles ≡ gap (setting ts) t x (instant (setting ts) x f) t ++ idles-left
-  pub decided : decided-by (setting ts) x t idles-left p ≡ start-task i
-  pub keeps : StartKeepsRules ts (hyperperiod ts) x t i t
-  pub goes-on : replay-from (setting ts) (suc (hyperperiod ts)) x f idles p
-      ≡ start-before (record { task = i; start = t })
-      (replay-from (setting ts) (suc (hyperperiod ts)) (start-job x i) (t + task ts i .time) idles-left p)
-  pub shown : ShowsIdles (lent bytes ts) w idles-left
-  pub offset : w ≡ o + length (gap (setting ts) t x (instant (setting ts) x f) t) * size ID
-
--- from a state on, with a job left, at offsets that show the tables' records: the next start and how replay goes on
-module _ (bytes : List ℕ) (ts : List Task) (good : set-fault ts ≡ none) (p : List Inversion) (pairs : Pairs 0 0 p) (x offsets : List ℕ)
-    (placed : Placed (setting ts) (lent bytes ts) p x offsets) (left : all-started (hyperperiod ts) ts x ≡ false) where
-  -- a decision to start a task's next job at an instant: it starts, or it would end late
-  now-starts : {A : Type 0} (f t o : ℕ) (idles : List Idle) (i : ℕ) → instant (setting ts) x f ≡ t → InRange (hyperperiod ts) idles →
-      ShowsIdles (lent bytes ts) o idles → decided-by (setting ts) x t idles p ≡ start-task i →
-      (next-start (setting ts) (lent bytes ts) (standing x f offsets o) ≡ next-is i t o → StartKeepsRules ts (hyperperiod ts) x t i t →
-      replay-from (setting ts) (suc (hyperperiod ts)) x f idles p
-      ≡ start-before (record { task = i; start = t })
-      (replay-from (setting ts) (suc (hyperperiod ts)) (start-job x i) (t + task ts i .time) idles p) → A) →
-      ((number : ℕ) → next-start (setting ts) (lent bytes ts) (standing x f offsets o) ≡ stuck number →
-      replay-from (setting ts) (suc (hyperperiod ts)) x f idles p ≡ refuses (refusal 18 0) → A) → A
-  now-starts f t o idles i now ranges shown d starts late-now =
-      let h : ℕ = hyperperiod ts in
-      let a = readable-at (setting ts) (lent bytes ts) p pairs x offsets placed o idles shown in
-      let c = decided-as-table (setting ts) (lent bytes ts) p pairs x offsets placed t o idles shown ∙ d in
-      by-nat (late (entry-breaks ts h x t i t))
-      (λ e.
-      let keeps = keeps-rules ts h x t i t (laws ts good .replay-refuses x t i t e) in
-      let ends : t + task ts i .time ≤ h = ends-in-cycle ts h (good-rules (good-set ts good)) x t i t keeps in
-      starts (next-starts bytes ts (standing x f offsets o) t now i a c e) keeps
-      (turn-starts (setting ts) h x f t idles p now left i d e
-      ∙ ap (start-before (record { task = i; start = t }))
-      (turns-enough (setting ts) (laws ts good) h (suc h) (start-job x i) (t + task ts i .time) idles p ranges ends
-      (omega (arith, good-rules (good-set ts good) i .takes-time)) (omega arith))))
-      (λ number e. late-now (suc number) (next-refused bytes ts (standing x f offsets o) t now i number a c e)
-      (turn-refuses (setting ts) h x f t idles p now left i number d e
-      ∙ ap (λ (m : ℕ). refuses (refusal m 0)) (late-number (entry-breaks ts h x t i t) number e)))
-
-  -- what comes next from an instant on: a start, or a job that would end late
-  module _ {A : Type 0} (f o : ℕ) (idles : List Idle) (rising : Rising (hyperperiod ts) 0 idles) (shown : ShowsIdles (lent bytes ts) o idles)
-      (starts : (i t w : ℕ) → next-start (setting ts) (lent bytes ts) (standing x f offsets o) ≡ next-is i t w → NextReplayed bytes ts p x f o idles i t w → A)
-      (late-now : (number : ℕ) → next-start (setting ts) (lent bytes ts) (standing x f offsets o) ≡ stuck number →
-      replay-from (setting ts) (suc (hyperperiod ts)) x f idles p ≡ refuses (refusal 18 0) → A) where
-    -- the decision is to start a job
-    at-once : (i : ℕ) → decided-by (setting ts) x (instant (setting ts) x f) idles p ≡ start-task i → A
-    at-once i d =
-        let t : ℕ = instant (setting ts) x f in
-        let none-used = no-gap ts (hyperperiod ts) t x t t (omega arith) in
-        now-starts f t o idles i refl (rising-in-range (hyperperiod ts) 0 idles rising) shown d
-        (λ n keeps g. starts i t o n
-        (record {
-          idles-left = idles;
-          idles-used = ap (λ (k : List Idle). k ++ idles) (sym none-used);
-          decided = d;
-          keeps = keeps;
-          goes-on = g;
-          shown = shown;
-          offset = omega (arith, ap length none-used);
-        }))
-        late-now
-
-    -- the decision is to use an idle record: its end is the next instant, at which a job starts
-    after-idle : (r : Idle) (rest : List Idle) → idles ≡ r ∷ rest → r .start ≡ instant (setting ts) x f →
-        decided-by (setting ts) x (instant (setting ts) x f) idles p ≡ idle-for (r .length) → A
-    after-idle r rest q s d =
-        let h : ℕ = hyperperiod ts in
-        let t : ℕ = instant (setting ts) x f in
-        let u : ℕ = t + r .length in
-        let w : ℕ = past-idle (lent bytes ts .idle-shown o) o in
-        let rises : Rising h 0 (r ∷ rest) = rw q at rising in
-        let ranges : InRange h rest = rising-in-range h (suc (r .start + r .length)) rest (rises .3) in
-        let shown-first : ShowsIdles (lent bytes ts) o (r ∷ rest) = rw q at shown in
-        let readable = readable-at (setting ts) (lent bytes ts) p pairs x offsets placed o idles shown in
-        let choice = decided-as-table (setting ts) (lent bytes ts) p pairs x offsets placed t o idles shown ∙ d in
-        let next-same = next-idles bytes ts (standing x f offsets o) t refl (r .length) readable choice in
-        let on : replay-from (setting ts) (suc h) x f idles p ≡ replay-from (setting ts) (suc h) x u rest p =
-        turn-idles (setting ts) h x f t idles p refl left (r .length) d
-        ∙ ap (λ (k : List Idle). replay-from (setting ts) h x u (later-idles k) p) q
-        ∙ turns-enough (setting ts) (laws ts good) h (suc h) x u rest p ranges (omega (arith, rises .2)) (omega (arith, rises .1)) (omega arith) in
-        let now : instant (setting ts) x u ≡ u = omega arith in
-        let one-used : gap (setting ts) u x t u ≡ record { start = t; length = u - t } ∷ [] =
-        whole-gap ts h u x t u (omega (arith, rises .1)) (omega (arith, rises .1)) in
-        let go : (i : ℕ) → decided-by (setting ts) x u rest p ≡ start-task i → A =
-        λ i e. now-starts u u w rest i now ranges (past-idle-shown shown-first) e
-        (λ n keeps g. starts i u w (next-same ∙ n)
-        (record {
-          idles-left = rest;
-          idles-used = q ∙ rw one-used (ap (λ (k : Idle). k ∷ rest) (idle-path r (record { start = t; length = u - t }) s (omega arith)));
-          decided = e;
-          keeps = keeps;
-          goes-on = on ∙ g;
-          shown = past-idle-shown shown-first;
-          offset = past-first-idle bytes ts shown-first ∙ omega (arith, ap length one-used);
-        }))
-        (λ number n g. late-now number (next-same ∙ n) (on ∙ g)) in
-        by-decision (setting ts) x u rest p
-        (λ r′ later q′ s′ d′.
-        let rises-later : Rising h (suc (r .start + r .length)) (r′ ∷ later) = rw q′ at (rises .3) in
-        absurd (omega (arith, rises-later .0)))
-        (λ i l e. go i e) (λ i b e. go i e) (λ r′ b e. absurd (priority-runs ts h x u r′ b))
-
-    -- either
-    pub comes-next : A
-    comes-next =
-        by-decision (setting ts) x (instant (setting ts) x f) idles p after-idle (λ i l d. at-once i d) (λ i b d. at-once i d)
-        (λ r b d. absurd (priority-runs ts (hyperperiod ts) x (instant (setting ts) x f) r b))
-
 -- with no job started every slot holds 0
 pub zeros-same : (n : ℕ) → Same n zeros []
 zeros-same n i l = slot-zeros (limits .tasks) i ∙ sym (slot-empty i)
 
--- the delay that a start which the baseline would not make was recorded with
-module _ (ts : List Task) (p : List Inversion) (x : List ℕ) (idles : List Idle) (i t : ℕ)
-    (decided : decided-by (setting ts) x t idles p ≡ start-task i) where
-  pub inverted-recorded : runs (by-priority ts (hyperperiod ts) x t) i ≡ false →
-      delay-of p i (slot x i) ≡ some (t - release (task ts i) (slot x i))
-  inverted-recorded e =
-      by-decision (setting ts) x t idles p (λ r rest q s d. clash (cc))
-      (λ j l d.
-      let g : start-task j ≡ start-task i = sym d ∙ decided in
-      let q : j ≡ i = cc in
-      recorded-some (setting ts) p x t i (rw (← q) (lowest-from-some (length ts) 0 _ j l))
-      (λ v a b. let same : v ≡ t - release (task ts i) (slot x i) = omega arith in a ∙ ap some same))
-      (λ j b d.
-      let g : start-task j ≡ start-task i = sym d ∙ decided in
-      let q : j ≡ i = cc in
-      let same : runs (run j) i ≡ false = rw b at e in
-      differ (sym (eq-eqb j i q) ∙ same))
-      (λ r b d. clash (cc))
+-- a start that the baseline would not make was recorded with its delay
+inverted-recorded : (G : Setting) (p : List Inversion) (x : G .Started) (idles : List Idle) (i t : ℕ) → decided-by G x t idles p ≡ start-task i →
+    runs (G .baseline x t) i ≡ false → delay-of p i (G .next-job x i) ≡ some (t - G .release i (G .next-job x i))
+inverted-recorded G p x idles i t decided e =
+    by-decision G x t idles p (λ r rest q s d. clash (cc))
+    (λ j l d.
+    let g : start-task j ≡ start-task i = sym d ∙ decided in
+    let q : j ≡ i = cc in
+    recorded-some G p x t i (rw (← q) (lowest-from-some (G .tasks) 0 _ j l))
+    (λ v a b. let same : v ≡ t - G .release i (G .next-job x i) = omega arith in a ∙ ap some same))
+    (λ j b d.
+    let g : start-task j ≡ start-task i = sym d ∙ decided in
+    let q : j ≡ i = cc in
+    let same : runs (run j) i ≡ false = rw b at e in
+    differ (sym (eq-eqb j i q) ∙ same))
+    (λ r b d. clash (cc))
 
 -- where replay stands at offsets after starts: what has started, the instant from which the processor is free, the tasks' offsets, the ID offset
-pub record ReplaysAt (bytes : List ℕ) (ts : List Task) (X : Tables) (σ : List Entry) (x : List ℕ) (f : ℕ) (offsets : List ℕ) (o : ℕ) : Type 0 where
+pub record ReplaysAt (bytes : List ℕ) (ts : Set) (X : Tables) (σ : List Entry) (x : List ℕ) (f : ℕ) (offsets : List ℕ) (o : ℕ) : Type 0 where
   pub idles-used : List Idle
   pub idles-left : List Idle
   pub all-idles : X .idles ≡ idles-used ++ idles-left
   pub replayed : replay (setting ts) [] X
       ≡ starts-before σ (replay-from (setting ts) (suc (hyperperiod ts)) x f idles-left (X .inversions))
   pub free-in-cycle : f ≤ hyperperiod ts
-  pub counts : counts-possible (hyperperiod ts) ts x ≡ true
-  pub starts-left : length σ + jobs-left (hyperperiod ts) ts x ≡ all-jobs (hyperperiod ts) ts
+  pub counts : counts-possible (hyperperiod ts) (ts .tasks) x ≡ true
+  pub starts-left : length σ + jobs-left (hyperperiod ts) (ts .tasks) x ≡ all-jobs (hyperperiod ts) ts
   pub rising : Rising (hyperperiod ts) 0 idles-left
   pub idles-shown : ShowsIdles (lent bytes ts) o idles-left
   pub placed : Placed (setting ts) (lent bytes ts) (X .inversions) x offsets
-  pub idle-offset : o ≡ tables-offset ts + length idles-used * size ID
-  pub inversion-offsets : (i : ℕ) → i < length ts →
+  pub idle-offset : o ≡ head-length ts + length idles-used * size ID
+  pub inversion-offsets : (i : ℕ) → i < length (ts .tasks) →
       slot offsets i ≡ first-inversion-offset ts X + before-pair i (slot x i) (X .inversions) * size PV
-  -- what has started is what the starts started; the used idle records are the forced idles so far; each inversion so far has its record
-  pub started : Same (length ts) x (after-starts [] σ)
-  pub forced-so-far : (τ : List Entry) → forced-idles (setting ts) [] 0 (σ ++ τ) ≡ idles-used ++ forced-idles (setting ts) x f τ
+  -- what has started is what the starts started; each inversion so far has its record
+  pub started : Same (length (ts .tasks)) x (after-starts [] σ)
   pub inverted-so-far : (i k d : ℕ) → delay-of (inversions (setting ts) [] σ) i k ≡ some d → delay-of (X .inversions) i k ≡ some d
 
 -- a start of a task's next job, and where replay stands after it
-pub record StartsNext (bytes : List ℕ) (ts : List Task) (X : Tables) (σ : List Entry) (x offsets : List ℕ) (i t w : ℕ) : Type 0 where
+pub record StartsNext (bytes : List ℕ) (ts : Set) (X : Tables) (σ : List Entry) (x offsets : List ℕ) (i t w : ℕ) : Type 0 where
   pub goes-on : ReplaysAt bytes ts X (σ ++ (record { task = i; start = t } ∷ [])) (start-job x i) (t + task ts i .time)
       (moved (setting ts) (lent bytes ts) x offsets i) w
-  pub a-task : i < length ts
+  pub a-task : i < length (ts .tasks)
   pub a-job : slot x i < jobs (hyperperiod ts) (task ts i)
   pub released : release (task ts i) (slot x i) ≤ t
   pub ends-in-cycle : t + task ts i .time ≤ hyperperiod ts
 
-module _ {bytes : List ℕ} {ts : List Task} {X : Tables} {n : ℕ} (st : Stand bytes ts X n) (good : set-fault ts ≡ none) where
+module _ {bytes : List ℕ} {ts : Set} {X : Tables} {n : ℕ} (st : Stand bytes ts X n) (good : set-fault ts ≡ none) where
   -- at the start of a cycle
-  pub replay-begins : (x offsets : List ℕ) → Same (length ts) x [] → Same (length ts) offsets (first-offsets ts X .inversions) →
+  pub replay-begins : (x offsets : List ℕ) → Same (length (ts .tasks)) x [] → Same (length (ts .tasks)) offsets (first-offsets ts X .inversions) →
       ReplaysAt bytes ts X [] x 0 offsets (first-offsets ts X .idle)
   replay-begins x offsets sx so = record {
     idles-used = [];
     idles-left = X .idles;
     all-idles = refl;
-    replayed = sym (replay-same ts (hyperperiod ts) (suc (hyperperiod ts)) x [] 0 (X .idles) (X .inversions) sx);
+    replayed = sym (replay-same (setting ts) (by-slots ts (hyperperiod ts)) (suc (hyperperiod ts)) x [] 0 (X .idles) (X .inversions) sx);
     free-in-cycle = omega arith;
-    counts = counts-zero (hyperperiod ts) ts x sx;
-    starts-left = omega (arith, jobs-left-same (hyperperiod ts) ts x [] sx, all-left (hyperperiod ts) ts);
+    counts = counts-zero (hyperperiod ts) (ts .tasks) x sx;
+    starts-left = omega (arith, jobs-left-same (hyperperiod ts) (ts .tasks) x [] sx, all-left (hyperperiod ts) (ts .tasks));
     rising = st .keep-rules .rising;
     idles-shown = first-idles st;
     placed = λ i l. rw (so i l, sx i l, slot-empty i) (first-inversions st i l);
     idle-offset = omega arith;
     inversion-offsets = λ i l. so i l
-        ∙ slot-first ts X 0 (length ts) i (replicate (limits .tasks - length ts) 0) l
+        ∙ slot-first ts X 0 (length (ts .tasks)) i (replicate (limits .tasks - length (ts .tasks)) 0) l
         ∙ rw (zero-add i, sx i l, slot-empty i, before-first i (X .inversions));
     started = sx;
-    forced-so-far = λ τ. sym (forced-idles-same ts (hyperperiod ts) x [] 0 τ sx);
     inverted-so-far = λ i k d e. clash (cc);
   }
 
   module _ {σ : List Entry} {x : List ℕ} {f : ℕ} {offsets : List ℕ} {o : ℕ} (R : ReplaysAt bytes ts X σ x f offsets o) where
     -- no next job number is above the jobs of a cycle
-    pub possible : (i : ℕ) → i < length ts → slot x i ≤ jobs (hyperperiod ts) (task ts i)
-    possible = counts-say (hyperperiod ts) ts x (R .counts)
-
-    -- the ID offset is not past the first PV
-    pub idle-offset-bound : o ≤ first-inversion-offset ts X
-    idle-offset-bound = omega (arith, R .idle-offset, ap length (R .all-idles), length-append (R .idles-used) (R .idles-left))
-
-    -- and no task's offset is past EN, which ends by the last offset
-    pub inversion-offset-bound : (i : ℕ) → i < length ts →
-        (first-inversion-offset ts X ≤ slot offsets i) × (slot offsets i ≤ first-inversion-offset ts X + length (X .inversions) * size PV)
-        × (slot offsets i + size EN ≤ last-offset)
-    inversion-offset-bound i l =
-        let few : before-pair i (slot x i) (X .inversions) ≤ length (X .inversions) = before-few i (slot x i) (X .inversions) in
-        let there = R .inversion-offsets i l in
-        (omega arith, omega arith, omega (arith, st .short))
+    pub possible : (i : ℕ) → i < length (ts .tasks) → slot x i ≤ jobs (hyperperiod ts) (task ts i)
+    possible = counts-say (hyperperiod ts) (ts .tasks) x (R .counts)
 
     -- what a task's offset shows for its next job is what the table says
-    pub shown-delay : (i : ℕ) → i < length ts →
+    pub shown-delay : (i : ℕ) → i < length (ts .tasks) →
         own-delay (lent bytes ts .inversion-shown (slot offsets i)) i (slot x i) ≡ delay-of (X .inversions) i (slot x i)
     shown-delay i l =
         own-as-table (lent bytes ts) i (slot x i) 0 0 (X .inversions) (st .keep-rules .pairs) (slot offsets i) (R .placed i l)
 
     -- after a start the tasks' offsets are behind the records before their next jobs
-    offsets-moved : (i : ℕ) → i < length ts → (j : ℕ) → j < length ts →
+    offsets-moved : (i : ℕ) → i < length (ts .tasks) → (j : ℕ) → j < length (ts .tasks) →
         slot (moved (setting ts) (lent bytes ts) x offsets i) j
         ≡ first-inversion-offset ts X + before-pair j (slot (start-job x i) j) (X .inversions) * size PV
     offsets-moved i a j l =
@@ -396,7 +258,7 @@ module _ {bytes : List ℕ} {ts : List Task} {X : Tables} {n : ℕ} (st : Stand 
         (λ u. slot-put-other offsets i j v u ∙ R .inversion-offsets j l ∙ rw (slot-start-other x i j u))
 
     -- after a start each inversion so far has its record
-    inverted-more : (i t : ℕ) (idles : List Idle) → i < length ts → decided-by (setting ts) x t idles (X .inversions) ≡ start-task i →
+    inverted-more : (i t : ℕ) (idles : List Idle) → i < length (ts .tasks) → decided-by (setting ts) x t idles (X .inversions) ≡ start-task i →
         (j k d : ℕ) → delay-of (inversions (setting ts) [] (σ ++ (record { task = i; start = t } ∷ []))) j k ≡ some d →
         delay-of (X .inversions) j k ≡ some d
     inverted-more i t idles a decided j k d e =
@@ -408,45 +270,59 @@ module _ {bytes : List ℕ} {ts : List Task} {X : Tables} {n : ℕ} (st : Stand 
         (λ u v.
         let own : delay-of (inversions (setting ts) y (start ∷ [])) i (slot y i) ≡ some d =
         sym (inversions-own ts h [] σ start) ∙ (rw (← u, ← v) at e) in
-        by-bool (runs (by-priority ts h y t) i)
+        by-bool (runs (setting ts .baseline y t) i)
         (λ b. let g : none ≡ some d = rw b at own in clash (cc))
         (λ b.
         let g : delay-of (insert (inversion-of (setting ts) y start) []) i (slot y i) ≡ some d = rw b at own in
         let q : delay-of (X .inversions) i (slot x i) ≡ some (t - release (task ts i) (slot x i)) =
-        inverted-recorded ts (X .inversions) x idles i t decided (ap (λ a. runs a i) (priority-same ts h x y t (R .started)) ∙ b) in
+        inverted-recorded (setting ts) (X .inversions) x idles i t decided (ap (λ a. runs a i) (by-slots ts h .baseline-same x y t (R .started)) ∙ b) in
         let c : some (t - release (task ts i) (slot y i)) ≡ some d = sym (delay-insert-same (inversion-of (setting ts) y start) []) ∙ g in
         rw (← u, ← v, ← same) (q ∙ rw same c)))
         (λ m. R .inverted-so-far j k d (sym (inversions-other ts h [] σ start j k m) ∙ e))
 
     -- all jobs have started: replay gives these starts
-    pub replay-done : all-started (hyperperiod ts) ts x ≡ true → replay (setting ts) [] X ≡ gives σ
+    pub replay-done : all-started (hyperperiod ts) (ts .tasks) x ≡ true → replay (setting ts) [] X ≡ gives σ
     replay-done all =
         R .replayed ∙ ap (starts-before σ) (rw (all, replay-from)) ∙ starts-before-end σ
 
     -- and they are as many as a cycle has jobs
-    pub done-length : all-started (hyperperiod ts) ts x ≡ true → length σ ≡ all-jobs (hyperperiod ts) ts
-    done-length all = omega (arith, R .starts-left, none-left (hyperperiod ts) ts x all)
+    pub done-length : all-started (hyperperiod ts) (ts .tasks) x ≡ true → length σ ≡ all-jobs (hyperperiod ts) ts
+    done-length all = omega (arith, R .starts-left, none-left (hyperperiod ts) (ts .tasks) x all)
 
-    module _ (left : all-started (hyperperiod ts) ts x ≡ false) where
+    module _ (left : all-started (hyperperiod ts) (ts .tasks) x ≡ false) where
+      -- what comes next from here
+      from-here : {A : Type 0} →
+          ((i t w : ℕ) → next-start (setting ts) (lent bytes ts) (standing x f offsets o) ≡ next-is i t w →
+          Comes (setting ts) (lent bytes ts) (X .inversions) x f o (R .idles-left) i t w → A) →
+          ((number : ℕ) → next-start (setting ts) (lent bytes ts) (standing x f offsets o) ≡ stuck number →
+          replay-from (setting ts) (suc (hyperperiod ts)) x f (R .idles-left) (X .inversions) ≡ refuses (refusal number 0) → A) → A
+      from-here =
+          comes-next (setting ts) (laws ts good) (lent bytes ts) (λ o r after e. idle-after bytes ts o r after e) (X .inversions) (st .keep-rules .pairs) x
+          offsets (R .placed) left f o (R .idles-left) (R .rising) (R .idles-shown) (R .free-in-cycle)
+
       -- the search for the next start is stuck: replay comes to a late job
       pub replay-stuck : (number : ℕ) → next-start (setting ts) (lent bytes ts) (standing x f offsets o) ≡ stuck number →
           replay (setting ts) [] X ≡ refuses (refusal 18 (length σ))
       replay-stuck number e =
-          comes-next bytes ts good (X .inversions) (st .keep-rules .pairs) x offsets (R .placed) left f o (R .idles-left) (R .rising) (R .idles-shown)
-          (λ i t w q z. clash (cc)) (λ m q z. R .replayed ∙ ap (starts-before σ) z ∙ starts-before-refusal σ 18)
+          from-here (λ i t w q c. clash (cc))
+          (λ m q g.
+          let stops : replay (setting ts) [] X ≡ refuses (refusal m (length σ)) = R .replayed ∙ ap (starts-before σ) g ∙ starts-before-refusal σ m in
+          let (k, same, late-job) = refused-late ts X good (keep-records ts (hyperperiod ts) X (st .keep-rules)) (refusal m (length σ)) stops in
+          let number-is : m ≡ 18 = ap (λ (r : Refusal). r .number) same in
+          stops ∙ ap (λ (n : ℕ). refuses (refusal n (length σ))) number-is)
 
       -- how replay goes on where the search comes to a start
       pub next-replayed : (i t w : ℕ) → next-start (setting ts) (lent bytes ts) (standing x f offsets o) ≡ next-is i t w →
-          NextReplayed bytes ts (X .inversions) x f o (R .idles-left) i t w
+          Comes (setting ts) (lent bytes ts) (X .inversions) x f o (R .idles-left) i t w
       next-replayed i t w e =
-          comes-next bytes ts good (X .inversions) (st .keep-rules .pairs) x offsets (R .placed) left f o (R .idles-left) (R .rising) (R .idles-shown)
-          (λ i′ t′ w′ q z.
+          from-here
+          (λ i′ t′ w′ q c.
           let g : next-is i′ t′ w′ ≡ next-is i t w = sym q ∙ e in
-          let a : i′ ≡ i = cc in
-          let b : t′ ≡ t = cc in
-          let c : w′ ≡ w = cc in
-          rw (a, b, c) at z)
-          (λ m q z. clash (cc))
+          let its-task : i′ ≡ i = cc in
+          let its-start : t′ ≡ t = cc in
+          let its-offset : w′ ≡ w = cc in
+          rw (its-task, its-start, its-offset) at c)
+          (λ m q g. clash (cc))
 
       -- the search comes to a start: replay goes on from there
       pub replay-starts : (i t w : ℕ) → next-start (setting ts) (lent bytes ts) (standing x f offsets o) ≡ next-is i t w →
@@ -456,34 +332,31 @@ module _ {bytes : List ℕ} {ts : List Task} {X : Tables} {n : ℕ} (st : Stand 
           let p : List Inversion = X .inversions in
           let z = next-replayed i t w e in
           let start : Entry = record { task = i; start = t } in
-          let used : List Idle = gap (setting ts) t x (instant (setting ts) x f) t in
-          let ends : t + task ts i .time ≤ h = ends-in-cycle ts h (good-rules (good-set ts good)) x t i t (z .keeps) in
+          let kept : StartKeepsRules ts h x t i t = keeps-rules ts h x t i t (z .keeps) in
+          let ends : t + task ts i .time ≤ h = laws ts good .by-latest x t i t (z .keeps) in
           let y : List ℕ = after-starts [] σ in
           record {
             goes-on = record {
-              idles-used = R .idles-used ++ used;
+              idles-used = R .idles-used ++ z .idles-used;
               idles-left = z .idles-left;
               all-idles = R .all-idles
-                  ∙ ap (λ (k : List Idle). R .idles-used ++ k) (z .idles-used)
-                  ∙ sym (append-assoc (R .idles-used) used (z .idles-left));
+                  ∙ ap (λ (k : List Idle). R .idles-used ++ k) (z .way .all)
+                  ∙ sym (append-assoc (R .idles-used) (z .idles-used) (z .idles-left));
               replayed = R .replayed ∙ ap (starts-before σ) (z .goes-on) ∙ sym (starts-before-more σ start _);
               free-in-cycle = ends;
-              counts = counts-start h ts x i (R .counts) (z .keeps .left);
-              starts-left = omega (arith, R .starts-left, length-append σ (start ∷ []), one-left h ts x i (z .keeps .a-task) (z .keeps .left));
-              rising = rising-behind h 0 used (z .idles-left) (rw (z .idles-used) at (R .rising));
+              counts = counts-start h (ts .tasks) x i (R .counts) (kept .left);
+              starts-left = omega (arith, R .starts-left, length-append σ (start ∷ []), one-left h (ts .tasks) x i (kept .a-task) (kept .left));
+              rising = z .way .rising;
               idles-shown = z .shown;
-              placed = placed-moved (setting ts) (lent bytes ts) p (laws ts good) (st .keep-rules .pairs) x offsets t i t
-                  (breaks-none ts h x t i t (z .keeps)) (R .placed);
-              idle-offset = omega (arith, z .offset, R .idle-offset, length-append (R .idles-used) used);
-              inversion-offsets = offsets-moved i (z .keeps .a-task);
-              started = λ j l. start-same (length ts) x y i (R .started) j l ∙ ap (λ (v : List ℕ). slot v j) (sym (after-one-more [] σ start));
-              forced-so-far = λ τ. ap (forced-idles (setting ts) [] 0) (append-assoc σ (start ∷ []) τ)
-                  ∙ R .forced-so-far (start ∷ τ)
-                  ∙ sym (append-assoc (R .idles-used) used (forced-idles (setting ts) (start-job x i) (t + task ts i .time) τ));
-              inverted-so-far = inverted-more i t (z .idles-left) (z .keeps .a-task) (z .decided);
+              placed = placed-moved (setting ts) (lent bytes ts) p (laws ts good) (st .keep-rules .pairs) x offsets t i t (z .keeps)
+                  (R .placed);
+              idle-offset = omega (arith, z .offset, R .idle-offset, length-append (R .idles-used) (z .idles-used));
+              inversion-offsets = offsets-moved i (kept .a-task);
+              started = λ j l. start-same (length (ts .tasks)) x y i (R .started) j l ∙ ap (λ (v : List ℕ). slot v j) (sym (after-one-more [] σ start));
+              inverted-so-far = inverted-more i t (z .idles-left) (kept .a-task) (z .way .decided);
             };
-            a-task = z .keeps .a-task;
-            a-job = z .keeps .left;
-            released = z .keeps .released;
+            a-task = kept .a-task;
+            a-job = kept .left;
+            released = kept .released;
             ends-in-cycle = ends;
           }

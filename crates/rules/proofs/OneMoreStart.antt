@@ -1,24 +1,26 @@
--- One start more: what it adds to what replay gives, to what has started, and to the forced idles and inversions that are derived. Assumes nothing.
+-- One start more: what it adds to what replay gives, to what has started, and to the inversions that are derived. Assumes nothing.
 use mathlib.Core.Path.{_≡_, refl, sym, _∙_, ap}
 use mathlib.Core.List.{List, [], _∷_, _++_}
-use Prim.Native.Nat.{ℕ, zero, suc, _+_, max, _≤_}
+use Prim.Native.Nat.{ℕ, zero, suc, _+_, _≤_}
 use native.Mathlib.Omega.{arith}
-use lib.Dec.{ltb, leb}
-use lib.ListN.{length}
+use lib.ListN.{length, take, drop}
+use borrow.Author.Tests.{eq-eqb, ne-eqb}
 use Rattle.fields.specs.Body.{tail₀}
 use Rattle.rules.specs.declared.Task.{Task}
 use Rattle.rules.specs.declared.Entry.{Entry}
+use Rattle.rules.specs.Tasks.{Set}
 use Rattle.rules.specs.Refusals.{Judged, gives, refuses, refusal}
-use Rattle.rules.specs.Setting.{Setting, run, wait, instant}
-use Rattle.rules.specs.Priority.{slot, start-job, by-priority, setting-of}
-use Rattle.rules.specs.Irregularities.{runs, gap, forced-idles, inversion-of, inversions}
+use Rattle.rules.specs.Timetable.{count}
+use Rattle.rules.specs.Setting.{Setting}
+use Rattle.rules.specs.Priority.{slot, start-job, setting-of}
+use Rattle.rules.specs.Irregularities.{runs, inversion-of, inversions}
 use Rattle.rules.specs.Decision.{delay-of, start-before}
-use Rattle.rules.proofs.Cases.{by-bool, by-act, by-eq, by-pair}
+use Rattle.rules.proofs.Cases.{by-bool, by-eq, by-pair, by-judged, clash}
 use Rattle.rules.proofs.Pairs.{delay-insert-same}
 use Rattle.rules.proofs.RoundTrip.{inversion-of-rest}
 use Rattle.rules.proofs.PriorityLaws.{slot-start-same, slot-start-other}
 use Rattle.rules.proofs.ValidTimetables.{jobs-left}
-use Rattle.rules.proofs.Slots.{Same, least-release-same, start-same, priority-same}
+use Rattle.rules.proofs.Slots.{Same}
 
 -- starts put before what replay goes on with; a refusal's place is counted from the first of them
 abbrev pub starts-before : List Entry → Judged (List Entry) → Judged (List Entry)
@@ -40,6 +42,22 @@ pub starts-before-refusal : (σ : List Entry) (number : ℕ) → starts-before �
 starts-before-refusal [] number = refl
 starts-before-refusal (e ∷ σ) number = ap (start-before e) (starts-before-refusal σ number)
 
+-- where the first starts of a timetable stand before what replay goes on with and give it, replay goes on with the rest
+pub starts-given : (r : ℕ) (τ : List Entry) (z : Judged (List Entry)) → starts-before (take r τ) z ≡ gives τ → z ≡ gives (drop r τ)
+starts-given zero τ z e = e
+starts-given (suc r) [] z e = e
+starts-given (suc r) (d ∷ τ) z e =
+    by-judged (starts-before (take r τ) z)
+    (λ υ q. let g : gives (d ∷ υ) ≡ gives (d ∷ τ) = rw (q, start-before) at e in
+    let same : υ ≡ τ = cc in
+    starts-given r τ z (q ∙ ap gives same))
+    (λ n q. let g : refuses (refusal (n .number) (suc (n .place))) ≡ gives (d ∷ τ) = rw (q, start-before) at e in clash (cc))
+
+-- what a start before the others gives begins with it
+pub start-given : (d e : Entry) (z : Judged (List Entry)) (τ : List Entry) → start-before d z ≡ gives (e ∷ τ) → d ≡ e
+start-given d e (gives υ) τ g = cc
+start-given d e (refuses n) τ g = clash (cc)
+
 -- what has started after starts in turn
 abbrev pub after-starts : List ℕ → List Entry → List ℕ
 after-starts x [] = x
@@ -49,6 +67,15 @@ after-starts x (e ∷ σ) = after-starts (start-job x (e .task)) σ
 pub after-one-more : (x : List ℕ) (σ : List Entry) (e : Entry) → after-starts x (σ ++ (e ∷ [])) ≡ start-job (after-starts x σ) (e .task)
 after-one-more x [] e = refl
 after-one-more x (d ∷ σ) e = after-one-more (start-job x (d .task)) σ e
+
+-- next job numbers count the starts
+pub after-counts : (x : List ℕ) (σ : List Entry) (i : ℕ) → slot (after-starts x σ) i ≡ slot x i + count i σ
+after-counts x [] i = omega arith
+after-counts x (e ∷ σ) i =
+    by-eq (e .task) i
+    (λ u. let own : slot (start-job x (e .task)) i ≡ suc (slot x i) = rw u (slot-start-same x i) in
+    rw (eq-eqb (e .task) i u) (omega (arith, after-counts (start-job x (e .task)) σ i)))
+    (λ u. rw (ne-eqb (e .task) i u) (omega (arith, after-counts (start-job x (e .task)) σ i, slot-start-other x (e .task) i (λ q. u (sym q)))))
 
 -- a start moves no next job number back
 start-forward : (x : List ℕ) (j i : ℕ) → slot x i ≤ slot (start-job x j) i
@@ -66,32 +93,9 @@ jobs-left-same h [] x y s = refl
 jobs-left-same h (t ∷ ts) x y s =
     omega (arith, s 0 (omega arith), jobs-left-same h ts (tail₀ x) (tail₀ y) (λ i l. s (suc i) (omega arith)))
 
-module _ (ts : List Task) (h : ℕ) where
+module _ (ts : Set) (h : ℕ) where
   abbrev G : Setting
   G = setting-of ts h
-
-  -- and so does the record of a gap
-  gap-same : (turns : ℕ) (x y : List ℕ) (t s : ℕ) → Same (length ts) x y → gap G turns x t s ≡ gap G turns y t s
-  gap-same zero x y t s e = refl
-  gap-same (suc turns) x y t s e =
-      let b = priority-same ts h x y t e in
-      by-bool (ltb t s)
-      (λ c. by-act (by-priority ts h y t) (λ j d. let d′ : by-priority ts h x t ≡ run j = b ∙ d in rw (c, d, d′, gap))
-      (λ w d. let d′ : by-priority ts h x t ≡ wait w = b ∙ d in
-      by-bool (leb w s) (λ l. rw (c, d, d′, l, gap) (gap-same turns x y w s e)) (λ l. rw (c, d, d′, l, gap))))
-      (λ c. rw (c, gap))
-
-  -- and the forced idles
-  pub forced-idles-same : (x y : List ℕ) (f : ℕ) (τ : List Entry) → Same (length ts) x y → forced-idles G x f τ ≡ forced-idles G y f τ
-  forced-idles-same x y f [] e = refl
-  forced-idles-same x y f (d ∷ τ) e =
-      let u : instant G x f ≡ instant G y f = ap (max f) (least-release-same h ts x y e) in
-      rw (
-        u,
-        gap-same (d .start) x y (instant G y f) (d .start) e,
-        forced-idles-same (start-job x (d .task)) (start-job y (d .task)) (G .free-after (d .task) (d .start)) τ
-            (start-same (length ts) x y (d .task) e),
-      )
 
   -- one start more leaves the derived records of other jobs as they are
   pub inversions-other : (x : List ℕ) (σ : List Entry) (e : Entry) (i k : ℕ) → (e .task ≡ i → slot (after-starts x σ) (e .task) ≡ k → ⊥) →
@@ -101,7 +105,7 @@ module _ (ts : List Task) (h : ℕ) where
       let y : List ℕ = start-job x (d .task) in
       let rest = inversions-other y σ e i k n in
       by-pair (d .task) i (slot x (d .task)) k
-      (λ u v. by-bool (runs (by-priority ts h x (d .start)) (d .task)) (λ b. rw b rest)
+      (λ u v. by-bool (runs (G .baseline x (d .start)) (d .task)) (λ b. rw b rest)
       (λ b. rw (b, ← u, ← v)
       (delay-insert-same (inversion-of G x d) (inversions G y (σ ++ (e ∷ []))) ∙ sym (delay-insert-same (inversion-of G x d) (inversions G y σ)))))
       (λ m. inversion-of-rest G x d (σ ++ (e ∷ [])) i k m ∙ rest ∙ sym (inversion-of-rest G x d σ i k m))

@@ -3,23 +3,18 @@ use mathlib.Core.Path.{_≡_, refl, sym, _∙_}
 use mathlib.Core.Bool.{true, false}
 use mathlib.Core.List.{List, [], _∷_}
 use mathlib.Core.Option.{none, some}
-use Prim.Native.Nat.{ℕ, suc, _+_, _≤_, _<_}
+use Prim.Native.Nat.{ℕ, suc, _≤_, _<_}
 use native.Mathlib.Omega.{arith}
-use lib.Dec.{eqb}
 use lib.ListN.{length}
 use borrow.Author.Tests.{ltb-true, ltb-false, leb-true, leb-false, lt-ltb, le-leb, eq-eqb, ne-eqb}
 use Rattle.rules.specs.declared.Idle.{Idle}
 use Rattle.rules.specs.declared.Inversion.{Inversion}
-use Rattle.rules.specs.Tasks.{both}
 use Rattle.rules.specs.Irregularities.{at-most, insert}
-use Rattle.rules.specs.Decision.{delay-of}
+use Rattle.rules.specs.Decision.{is-of, delay-of}
 use Rattle.rules.proofs.Theory.{Pairs}
 use Rattle.rules.proofs.Cases.{by-bool, by-eq, by-pair, differ, clash}
 
 -- inversion tables
-both-refl : (a b : ℕ) → both (eqb a a) (eqb b b) ≡ true
-both-refl a b = simp (eq-eqb a a refl, eq-eqb b b refl)
-
 pub delay-here : (r : Inversion) (p : List Inversion) (i k : ℕ) → r .task ≡ i → r .job ≡ k → delay-of (r ∷ p) i k ≡ some (r .delay)
 delay-here r p i k h g = rw (eq-eqb _ _ h, eq-eqb _ _ g, delay-of)
 
@@ -44,7 +39,7 @@ delay-insert-other e [] i k h = delay-there e [] i k h
 delay-insert-other e (r ∷ p) i k h =
     by-bool (at-most (e .task) (e .job) (r .task) (r .job)) (λ b. rw (b, insert) (delay-there e (r ∷ p) i k h))
     (λ b. rw (b, insert)
-    (by-bool (both (eqb (r .task) i) (eqb (r .job) k)) (λ c. simp (c, delay-of))
+    (by-bool (is-of r i k) (λ c. simp (c, delay-of))
     (λ c. rw (c, delay-of) (delay-insert-other e p i k h))))
 
 -- the order of pairs

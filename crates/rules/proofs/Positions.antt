@@ -7,9 +7,8 @@ use lib.Dec.{eqb}
 use lib.ListN.{length, take, drop, length-drop}
 use lib.Seq.{take-suc, drop-cons}
 use borrow.Author.Tests.{eq-eqb, ne-eqb}
-use Rattle.rules.specs.declared.Task.{Task}
 use Rattle.rules.specs.declared.Entry.{Entry}
-use Rattle.rules.specs.Tasks.{task}
+use Rattle.rules.specs.Tasks.{Set, task}
 use Rattle.rules.specs.Timetable.{entry-at, count}
 use Rattle.rules.specs.Priority.{slot, start-job}
 use Rattle.rules.specs.Irregularities.{end-before}
@@ -28,7 +27,7 @@ count-same i e [] n = rw (ne-eqb (e .task) i (λ q. n (sym q)))
 count-same i e (d ∷ τ) n =
     by-bool (eqb (d .task) i) (λ b. rw (b, count-same i e τ n)) (λ b. rw (b, count-same i e τ n))
 
-module _ (ts : List Task) (h : ℕ) (τ : List Entry) where
+module _ (ts : Set) (h : ℕ) (τ : List Entry) where
   -- the walk before entry j: slots count the entries, the processor is free from the previous entry's end, the entries from j on are left
   pub record Before (j : ℕ) (x : List ℕ) (f : ℕ) (σ : List Entry) : Type 0 where
     pub started : (i : ℕ) → slot x i ≡ count i (take j τ)

@@ -14,7 +14,7 @@ use Rattle.rules.specs.declared.Task.{Task}
 use Rattle.rules.specs.declared.Refusal.{Refusal}
 use Rattle.rules.specs.declared.Dispatcher.{Dispatcher as State}
 use Rattle.rules.specs.Refusals.{first, unless}
-use Rattle.rules.specs.Tasks.{both, limits, task, release, jobs, hyperperiod, few-enough, set-fault, memory-fault}
+use Rattle.rules.specs.Tasks.{task-in, Set, both, limits, task, release, jobs, hyperperiod, few-enough, set-fault, memory-fault}
 use Rattle.rules.specs.Priority.{slot, all-started}
 use Rattle.rules.specs.Dispatcher.{task-numbers, numbers, zero-task, stopped, all-zero, is-stopped, set-of, is-none, counts-possible, possible, Shaped, number-count}
 use Rattle.rules.specs.GoingOn.{Stopped, PossibleState, CycleDone}
@@ -23,13 +23,13 @@ use Rattle.rules.proofs.PriorityLaws.{slot-empty, left-not-all}
 use Rattle.rules.proofs.GoodSets.{good-set, set-good}
 
 -- 25 for the state: the test of next job numbers says that none is above H/T
-pub counts-say : (h : ℕ) (ts : List Task) (x : List ℕ) → counts-possible h ts x ≡ true → (i : ℕ) → i < length ts → slot x i ≤ jobs h (task ts i)
+pub counts-say : (h : ℕ) (ts : List Task) (x : List ℕ) → counts-possible h ts x ≡ true → (i : ℕ) → i < length ts → slot x i ≤ jobs h (task-in ts i)
 counts-say h [] x e i l = absurd (omega arith)
 counts-say h (t ∷ ts) x e zero l = leb-true _ _ (both-true (leb (head₀ x) (jobs h t)) _ e .0)
 counts-say h (t ∷ ts) x e (suc i) l = counts-say h ts (tail₀ x) (both-true (leb (head₀ x) (jobs h t)) _ e .1) i (omega arith)
 
 -- next job numbers that are not above H/T pass it
-pub say-counts : (h : ℕ) (ts : List Task) (x : List ℕ) → ((i : ℕ) → i < length ts → slot x i ≤ jobs h (task ts i)) → counts-possible h ts x ≡ true
+pub say-counts : (h : ℕ) (ts : List Task) (x : List ℕ) → ((i : ℕ) → i < length ts → slot x i ≤ jobs h (task-in ts i)) → counts-possible h ts x ≡ true
 say-counts h [] x c = refl
 say-counts h (t ∷ ts) x c =
     both-in (leb (head₀ x) (jobs h t)) _ (le-leb _ _ (c 0 (omega arith))) (say-counts h ts (tail₀ x) (λ i l. c (suc i) (omega arith)))
@@ -43,9 +43,9 @@ module _ (s : State) where
   -- the test of a state says that it is possible
   pub is-possible : possible s ≡ true → PossibleState s
   is-possible e =
-      let ts : List Task = set-of s in
+      let ts : Set = set-of s in
       let a = both-true (is-none (memory-fault (s .set))) _ e in
-      let b = both-true (counts-possible (hyperperiod ts) ts (s .next)) _ (a .1) in
+      let b = both-true (counts-possible (hyperperiod ts) (ts .tasks) (s .next)) _ (a .1) in
       let m = first-none (unless (few-enough (s .set .n)) 5 0) (set-fault ts) (is-none-says (memory-fault (s .set)) (a .0)) in
       let n = both-true (leb 1 (s .set .n)) _ (unless-none (few-enough (s .set .n)) 5 0 (m .0)) in
       let r = both-true (ltb (s .running .task) (s .set .n)) _ (b .1) in
@@ -56,7 +56,7 @@ module _ (s : State) where
         few-tasks = leb-true _ _ (n .1);
         h = hyperperiod ts;
         good-set = good-set ts (m .1);
-        counts = counts-say (hyperperiod ts) ts (s .next) (b .0);
+        counts = counts-say (hyperperiod ts) (ts .tasks) (s .next) (b .0);
         a-task = ltb-true _ _ (r .0);
         last-started = eqb-true _ _ (u .0);
         released = leb-true _ _ (v .0);
@@ -66,10 +66,10 @@ module _ (s : State) where
   -- a possible state passes the test
   pub possible-is : PossibleState s → possible s ≡ true
   possible-is p =
-      let ts : List Task = set-of s in
+      let ts : Set = set-of s in
       let g = set-good ts (p .h) (p .good-set) in
       let few : few-enough (s .set .n) ≡ true = both-in _ _ (le-leb _ _ (p .some-tasks)) (le-leb _ _ (p .few-tasks)) in
-      let counts : counts-possible (hyperperiod ts) ts (s .next) ≡ true = rw (g .1) at (say-counts (p .h) ts (s .next) (p .counts)) in
+      let counts : counts-possible (hyperperiod ts) (ts .tasks) (s .next) ≡ true = rw (g .1) at (say-counts (p .h) (ts .tasks) (s .next) (p .counts)) in
       rw (few, g .0, counts, lt-ltb _ _ (p .a-task), eq-eqb _ _ (p .last-started), le-leb _ _ (p .released), le-leb _ _ (p .in-time))
 
 -- 23: the test of numbers says that each is 0
@@ -170,22 +170,22 @@ pub count-numbers : (s : State) → Shaped s → length (numbers s) ≡ number-c
 count-numbers s w = simp (length-append, four-each) (omega (arith, w))
 
 -- where all jobs have started no task has one left
-pub none-left : (h : ℕ) (ts : List Task) (x : List ℕ) → all-started h ts x ≡ true → (i : ℕ) → i < length ts → jobs h (task ts i) ≤ slot x i
-none-left h ts x e i l = by-le (jobs h (task ts i)) (slot x i) (λ k. k) (λ k. differ (sym e ∙ left-not-all h ts x i l k))
+pub none-left : (h : ℕ) (ts : Set) (x : List ℕ) → all-started h (ts .tasks) x ≡ true → (i : ℕ) → i < length (ts .tasks) → jobs h (task ts i) ≤ slot x i
+none-left h ts x e i l = by-le (jobs h (task ts i)) (slot x i) (λ k. k) (λ k. differ (sym e ∙ left-not-all h (ts .tasks) x i l k))
 
 -- where no task has a job left all have started
-pub all-have-started : (h : ℕ) (ts : List Task) (x : List ℕ) → ((i : ℕ) → i < length ts → jobs h (task ts i) ≤ slot x i) → all-started h ts x ≡ true
+pub all-have-started : (h : ℕ) (ts : List Task) (x : List ℕ) → ((i : ℕ) → i < length ts → jobs h (task-in ts i) ≤ slot x i) → all-started h ts x ≡ true
 all-have-started h [] x d = refl
 all-have-started h (t ∷ ts) x d =
     rw (le-ltb (head₀ x) (jobs h t) (d 0 (omega arith)), all-started) (all-have-started h ts (tail₀ x) (λ i l. d (suc i) (omega arith)))
 
 module _ (s : State) where
   -- the test that all jobs have started says, of a possible state, that the cycle is done
-  pub cycle-done : PossibleState s → all-started (hyperperiod (set-of s)) (set-of s) (s .next) ≡ true → CycleDone s
+  pub cycle-done : PossibleState s → all-started (hyperperiod (set-of s)) (set-of s .tasks) (s .next) ≡ true → CycleDone s
   cycle-done p e =
       let g = set-good (set-of s) (p .h) (p .good-set) in
       record { h = hyperperiod (set-of s); good-set = good-set (set-of s) (g .0); done = none-left (hyperperiod (set-of s)) (set-of s) (s .next) e }
 
   -- a cycle that is done passes it
-  pub done-cycle : CycleDone s → all-started (hyperperiod (set-of s)) (set-of s) (s .next) ≡ true
-  done-cycle d = rw (set-good (set-of s) (d .h) (d .good-set) .1) at (all-have-started (d .h) (set-of s) (s .next) (d .done))
+  pub done-cycle : CycleDone s → all-started (hyperperiod (set-of s)) (set-of s .tasks) (s .next) ≡ true
+  done-cycle d = rw (set-good (set-of s) (d .h) (d .good-set) .1) at (all-have-started (d .h) (set-of s .tasks) (s .next) (d .done))

@@ -9,7 +9,6 @@ use Prim.Native.Nat.{ℕ, suc, _+_, _*_, _/_, _%_, _≤_, _<_}
 use native.Mathlib.Omega.{arith}
 use lib.ListN.{length, take, drop}
 use Rattle.fields.specs.Number.{Bytes}
-use Rattle.rules.specs.declared.Task.{Task}
 use Rattle.rules.specs.declared.TaskSet.{TaskSet}
 use Rattle.rules.specs.declared.Entry.{Entry}
 use Rattle.rules.specs.declared.Idle.{Idle}
@@ -23,7 +22,7 @@ use Rattle.rules.specs.declared.MakeAnswer.the-variants as make-case
 use Rattle.rules.specs.declared.StartAnswer.{StartAnswer}
 use Rattle.rules.specs.declared.StartAnswer.the-variants as start-case
 use Rattle.rules.specs.Refusals.{gives, refusal, First, tells, start-tells}
-use Rattle.rules.specs.Tasks.{GoodSet, task, release, due, all-jobs, hyperperiod, figures, set-fault, memory-fault, memory-tests, judge-set}
+use Rattle.rules.specs.Tasks.{Set, GoodSet, task, release, due, all-jobs, hyperperiod, figures, set-fault, memory-fault, memory-tests, judge-set, memory-set}
 use Rattle.rules.specs.Timetable.{ValidTimetable, entry-at, job-at}
 use Rattle.rules.specs.Setting.{Tables, instant}
 use Rattle.rules.specs.Priority.{slot, all-started, setting-of, setting}
@@ -59,7 +58,7 @@ use Rattle.rules.proofs.ImageOrder as order
 use Rattle.rules.proofs.MakingOrder as making
 use Rattle.rules.proofs.RefusalNumbers as numbers
 use Rattle.rules.proofs.NextTurns.{enough-turns, lent-in-range}
-use Rattle.rules.proofs.PriorityLaws.{priority-runs}
+use Rattle.rules.proofs.PriorityLaws.{waits-later}
 use Rattle.rules.proofs.PossibleStates.{only-stopped, stopped-says}
 use Rattle.rules.proofs.GoingOnOrder as going
 use Rattle.rules.proofs.BeginOrder as beginning
@@ -71,75 +70,75 @@ use Rattle.rules.proofs.WorkedCases as cases
 -- IMAGES AND VALUES correspond one to one: exactly what can be written is read, with the values that were written
 
 pub timetable-images : (bytes : List ℕ) → Bytes bytes → (i : Timed) →
-    (read-timetable bytes ≡ gives i) ↔ (WritableTimetable (i .tasks) (i .entries) × (bytes ≡ timetable-image (i .tasks) (i .entries)))
+    (read-timetable bytes ≡ gives i) ↔ (WritableTimetable (i .set) (i .entries) × (bytes ≡ timetable-image (i .set) (i .entries)))
 timetable-images bytes b i = (
   images.framed-timetable bytes b i,
-  λ w. ap read-timetable (w .1) ∙ images.written-timetable (i .tasks) (i .entries) (w .0),
+  λ w. ap read-timetable (w .1) ∙ images.written-timetable (i .set) (i .entries) (w .0),
 )
 
 pub table-images : (bytes : List ℕ) → Bytes bytes → (i : Tabled) →
-    (read-tables bytes ≡ gives i) ↔ (WritableTables (i .tasks) (i .tables) × (bytes ≡ table-image (i .tasks) (i .tables)))
+    (read-tables bytes ≡ gives i) ↔ (WritableTables (i .set) (i .tables) × (bytes ≡ table-image (i .set) (i .tables)))
 table-images bytes b i = (
   images.framed-tables bytes b i,
-  λ w. ap read-tables (w .1) ∙ images.written-tables (i .tasks) (i .tables) (w .0),
+  λ w. ap read-tables (w .1) ∙ images.written-tables (i .set) (i .tables) (w .0),
 )
 
 -- DEMAND 2: a set passes exactly when it is good, by the document's list of rules
 
-pub good-sets : (ts : List Task) (h : ℕ) → ((set-fault ts ≡ none) × (h ≡ hyperperiod ts)) ↔ GoodSet ts h
+pub good-sets : (ts : Set) (h : ℕ) → ((set-fault ts ≡ none) × (h ≡ hyperperiod ts)) ↔ GoodSet ts h
 good-sets ts h = (λ w. rw (w .1) (good-set ts (w .0)), set-good ts h)
 
 -- DEMAND 2: a timetable passes exactly when it is valid, by the document's list of rules
 
-pub valid-timetables : (ts : List Task) (τ : List Entry) → (timetable-fault ts τ ≡ none) ↔ ValidTimetable ts (hyperperiod ts) τ
+pub valid-timetables : (ts : Set) (τ : List Entry) → (timetable-fault ts τ ≡ none) ↔ ValidTimetable ts (hyperperiod ts) τ
 valid-timetables = no-fault-valid
 
 -- DEMAND 2: a timetable image is accepted exactly when it is the image of a good set and a valid timetable
 
 pub accepted-timetables : (bytes : List ℕ) → Bytes bytes →
-    (check-timetable bytes ≡ check-case.Accepted) ↔ ((ts : List Task) × (τ : List Entry) × TimetableImage bytes ts τ)
+    (check-timetable bytes ≡ check-case.Accepted) ↔ ((ts : Set) × (τ : List Entry) × TimetableImage bytes ts τ)
 accepted-timetables = demand2.accepts-timetable
 
 -- DEMAND 2: its tables are exactly its irregularities, as the document defines them over the entries before
 
-pub exactly-its-irregularities : (ts : List Task) (h : ℕ) (τ : List Entry) → GoodSet ts h → ValidTimetable ts h τ → (X : Tables) →
+pub exactly-its-irregularities : (ts : Set) (h : ℕ) (τ : List Entry) → GoodSet ts h → ValidTimetable ts h τ → (X : Tables) →
     HasTables ts h τ X ↔ (X ≡ tables ts τ)
 exactly-its-irregularities ts h τ g v X = (one-table g v, λ e. rw e (derived-tables g v))
 
 -- DEMAND 2: derived records meet their own rules, so that 17 never refuses them
 
-pub derived-records-keep-their-rules : (ts : List Task) (h : ℕ) (τ : List Entry) → GoodSet ts h → ValidTimetable ts h τ →
+pub derived-records-keep-their-rules : (ts : Set) (h : ℕ) (τ : List Entry) → GoodSet ts h → ValidTimetable ts h τ →
     records-fault ts (hyperperiod ts) (tables ts τ) ≡ none
 derived-records-keep-their-rules ts h τ g v =
     let e = set-good ts h g in lists.derived-keep-rules ts τ (e .0) (valid-timetable ts (hyperperiod ts) τ .1 (rw (e .1) at v))
 
 -- DEMAND 2: deriving gives the image of exactly these tables
 
-pub derived-images : {bytes : List ℕ} {ts : List Task} {τ : List Entry} → TimetableImage bytes ts τ → (room : ℕ) →
+pub derived-images : {bytes : List ℕ} {ts : Set} {τ : List Entry} → TimetableImage bytes ts τ → (room : ℕ) →
     derived-image room bytes ≡ into room (table-image ts (tables ts τ))
 derived-images = demand2.derives-image
 
 -- DEMAND 2: a table image is accepted exactly when some valid timetable has those tables
 
 pub accepted-tables : (bytes : List ℕ) → Bytes bytes →
-    (check-tables bytes ≡ check-case.Accepted) ↔ ((ts : List Task) × (τ : List Entry) × TableImage bytes ts τ)
+    (check-tables bytes ≡ check-case.Accepted) ↔ ((ts : Set) × (τ : List Entry) × TableImage bytes ts τ)
 accepted-tables = demand2.accepts-tables
 
 -- DEMAND 2: that timetable is the only one
 
-pub only-one-timetable : {bytes : List ℕ} {ts us : List Task} {τ σ : List Entry} → TableImage bytes ts τ → TableImage bytes us σ → (ts ≡ us) × (τ ≡ σ)
+pub only-one-timetable : {bytes : List ℕ} {ts us : Set} {τ σ : List Entry} → TableImage bytes ts τ → TableImage bytes us σ → (ts ≡ us) × (τ ≡ σ)
 only-one-timetable = demand2.one-timetable-behind
 
 -- DEMAND 2: rebuilding gives its image, byte for byte
 
-pub rebuilt-images : {bytes : List ℕ} {ts : List Task} {τ : List Entry} → TableImage bytes ts τ → (room : ℕ) →
+pub rebuilt-images : {bytes : List ℕ} {ts : Set} {τ : List Entry} → TableImage bytes ts τ → (room : ℕ) →
     rebuilt-image room bytes ≡ into room (timetable-image ts τ)
 rebuilt-images = demand2.rebuilds-image
 
 -- DEMAND 2: and that image is read as this set and this timetable
 
-pub rebuilt-reads : {bytes : List ℕ} {ts : List Task} {τ : List Entry} → TableImage bytes ts τ →
-    read-timetable (timetable-image ts τ) ≡ gives (record { tasks = ts; entries = τ })
+pub rebuilt-reads : {bytes : List ℕ} {ts : Set} {τ : List Entry} → TableImage bytes ts τ →
+    read-timetable (timetable-image ts τ) ≡ gives (record { set = ts; entries = τ })
 rebuilt-reads = demand2.rebuilt-reads
 
 -- DEMAND 2: with the two images of one timetable, each is written from the other, where there is room, and later bytes keep their values
@@ -166,7 +165,7 @@ derive-after-rebuild = demand2.derive-after-rebuild
 
 -- DEMAND 3, of every log of calls on a table image that is accepted, with the set and the one timetable that `accepted-tables` gives
 
-module _ (bytes : List ℕ) (are-bytes : Bytes bytes) (ts : List Task) (τ : List Entry) (accepted : TableImage bytes ts τ) where
+module _ (bytes : List ℕ) (are-bytes : Bytes bytes) (ts : Set) (τ : List Entry) (accepted : TableImage bytes ts τ) where
   -- the timetable has as many entries as a cycle has jobs, and at least one
   pub entries-are-jobs : (length τ ≡ all-jobs (hyperperiod ts) ts) × (1 ≤ length τ)
   entries-are-jobs =
@@ -231,16 +230,16 @@ module _ (bytes : List ℕ) (are-bytes : Bytes bytes) (ts : List Task) (τ : Lis
 
 -- from one instant to another each record that is no longer left moves its offset behind it, so that at one instant no other offsets stand there
 
-pub offsets-move : {bytes : List ℕ} {ts : List Task} {X : Tables} {t t′ : ℕ} {x x′ : List ℕ} (o o′ : OffsetsOf) → OffsetsStand bytes ts X t x o →
+pub offsets-move : {bytes : List ℕ} {ts : Set} {X : Tables} {t t′ : ℕ} {x x′ : List ℕ} (o o′ : OffsetsOf) → OffsetsStand bytes ts X t x o →
     OffsetsStand bytes ts X t′ x′ o′ →
     (o .idle + length (idles-since t (X .idles)) * size ID ≡ o′ .idle + length (idles-since t′ (X .idles)) * size ID)
-    × ((i : ℕ) → i < length ts →
+    × ((i : ℕ) → i < length (ts .tasks) →
     slot (o .inversions) i + length (inversions-since i (slot x i) (X .inversions)) * size PV
     ≡ slot (o′ .inversions) i + length (inversions-since i (slot x′ i) (X .inversions)) * size PV)
 offsets-move = standing.offsets-moved
 
-pub one-place-for-offsets : {bytes : List ℕ} {ts : List Task} {X : Tables} {t : ℕ} {x : List ℕ} (o o′ : OffsetsOf) → OffsetsStand bytes ts X t x o →
-    OffsetsStand bytes ts X t x o′ → (o .idle ≡ o′ .idle) × ((i : ℕ) → i < length ts → slot (o .inversions) i ≡ slot (o′ .inversions) i)
+pub one-place-for-offsets : {bytes : List ℕ} {ts : Set} {X : Tables} {t : ℕ} {x : List ℕ} (o o′ : OffsetsOf) → OffsetsStand bytes ts X t x o →
+    OffsetsStand bytes ts X t x o′ → (o .idle ≡ o′ .idle) × ((i : ℕ) → i < length (ts .tasks) → slot (o .inversions) i ≡ slot (o′ .inversions) i)
 one-place-for-offsets = standing.one-offsets
 
 -- not vacuous: P2 is accepted
@@ -258,7 +257,7 @@ pub set-refusals : (s : TaskSet) (r : Refusal) → judge-set s ≡ set-case.Refu
 unfolding judge-set
 set-refusals s r e =
     by-option (memory-fault s)
-    (λ n. let g : set-case.Good (figures (take (s .n) (s .tasks))) ≡ set-case.Refused r = rw n at e in clash (cc))
+    (λ n. let g : set-case.Good (figures (memory-set s)) ≡ set-case.Refused r = rw n at e in clash (cc))
     (λ q n. let g : set-case.Refused q ≡ set-case.Refused r = rw n at e in
     let same : q ≡ r = cc in
     let is : memory-fault s ≡ some r = n ∙ ap some same in
@@ -288,7 +287,7 @@ pub derive-refusals : (bytes old : List ℕ) (r : Refusal) → derive bytes old 
     ((check-timetable bytes ≡ check-case.Refused r) ⊎ ((r ≡ refusal 20 0) × (check-timetable bytes ≡ check-case.Accepted))) × (derive-output bytes old ≡ old)
 derive-refusals bytes old r e = (order.derive-refuses bytes old r e, order.derive-keeps bytes old r e)
 
-pub derive-too-long : {bytes : List ℕ} {ts : List Task} {τ : List Entry} (old : List ℕ) → TimetableImage bytes ts τ →
+pub derive-too-long : {bytes : List ℕ} {ts : Set} {τ : List Entry} (old : List ℕ) → TimetableImage bytes ts τ →
     (derive bytes old ≡ make-case.Refused (refusal 20 0)) ↔ (length old < length (table-image ts (tables ts τ)))
 derive-too-long = order.derive-too-long
 
@@ -298,7 +297,7 @@ pub rebuild-refusals : (bytes old : List ℕ) (r : Refusal) → rebuild bytes ol
     ((check-tables bytes ≡ check-case.Refused r) ⊎ ((r ≡ refusal 20 0) × (check-tables bytes ≡ check-case.Accepted))) × (rebuild-output bytes old ≡ old)
 rebuild-refusals bytes old r e = (order.rebuild-refuses bytes old r e, order.rebuild-keeps bytes old r e)
 
-pub rebuild-too-long : {bytes : List ℕ} {ts : List Task} {τ : List Entry} (old : List ℕ) → TableImage bytes ts τ →
+pub rebuild-too-long : {bytes : List ℕ} {ts : Set} {τ : List Entry} (old : List ℕ) → TableImage bytes ts τ →
     (rebuild bytes old ≡ make-case.Refused (refusal 20 0)) ↔ (length old < length (timetable-image ts τ))
 rebuild-too-long = order.rebuild-too-long
 
@@ -312,13 +311,13 @@ rebuild-order = making.rebuild-order
 
 -- THE DECISION RULE: the next instant is the first with a job waiting, and what is worked out there is what the rule decides in the document's words
 
-pub decision-instant : (ts : List Task) (h : ℕ) → GoodSet ts h → (x : List ℕ) (f t : ℕ) →
-    NextInstant ts h x f t ↔ ((all-started h ts x ≡ false) × (instant (setting-of ts h) x f ≡ t))
+pub decision-instant : (ts : Set) (h : ℕ) → GoodSet ts h → (x : List ℕ) (f t : ℕ) →
+    NextInstant ts h x f t ↔ ((all-started h (ts .tasks) x ≡ false) × (instant (setting-of ts h) x f ≡ t))
 decision-instant ts h g = rule.next-instants ts h (good-rules g)
 
 -- THE DECISION RULE in replay, by the unused idle records and the inversion records of tables that 17 does not refuse
 
-pub decision-rule : (ts : List Task) (h : ℕ) (X : Tables) → records-fault ts h X ≡ none → (unused : List Idle) (x : List ℕ) (f t : ℕ) →
+pub decision-rule : (ts : Set) (h : ℕ) (X : Tables) → records-fault ts h X ≡ none → (unused : List Idle) (x : List ℕ) (f t : ℕ) →
     NextInstant ts h x f t → (c : Choice) →
     DecidesBy ts h unused (X .inversions) x t c
     ↔ (decide (setting-of ts h) x t (first-idle unused t) (delays (setting-of ts h) (X .inversions) x) ≡ c)
@@ -327,13 +326,13 @@ decision-rule ts h X e unused x f t n c =
 
 -- THE DECISION RULE: replay gives exactly the starts that the rule makes from 0 on, with nothing started, until all jobs have started
 
-pub replay-rule : (ts : List Task) (X : Tables) → set-fault ts ≡ none → records-fault ts (hyperperiod ts) X ≡ none → (τ : List Entry) →
+pub replay-rule : (ts : Set) (X : Tables) → set-fault ts ≡ none → records-fault ts (hyperperiod ts) X ≡ none → (τ : List Entry) →
     (replay (setting ts) [] X ≡ gives τ) ↔ Replays ts (hyperperiod ts) (X .inversions) (cycle-start X) τ
 replay-rule ts X good records τ = (given-replays ts X good records τ, replays-given ts X good records τ)
 
 -- THE DECISION RULE in the dispatcher, by the records that byte offsets show, of any bytes
 
-pub decision-rule-at-offsets : (bytes : List ℕ) (ts : List Task) (a : Standing (List ℕ)) (t : ℕ) → NextInstant ts (hyperperiod ts) (a .next) (a .free) t →
+pub decision-rule-at-offsets : (bytes : List ℕ) (ts : Set) (a : Standing (List ℕ)) (t : ℕ) → NextInstant ts (hyperperiod ts) (a .next) (a .free) t →
     (c : Choice) →
     DecidesAt ts (hyperperiod ts) (lent bytes ts) a t c
     ↔ (decide (setting ts) (a .next) t (idle-now (lent bytes ts .idle-shown (a .idle)) t)
@@ -400,14 +399,14 @@ slots-above-pass-on = above.going-hands-on
 pub framing-turns : (turns kind : ℕ) (s : Place) (bytes : List ℕ) → length bytes < turns → frame-from turns kind s bytes ≡ frame-records kind s bytes
 framing-turns = frame-enough
 
-pub replay-turns : (ts : List Task) (turns : ℕ) (X : Tables) → set-fault ts ≡ none → records-fault ts (hyperperiod ts) X ≡ none → hyperperiod ts < turns →
+pub replay-turns : (ts : Set) (turns : ℕ) (X : Tables) → set-fault ts ≡ none → records-fault ts (hyperperiod ts) X ≡ none → hyperperiod ts < turns →
     replay-from (setting ts) turns [] 0 (X .idles) (X .inversions) ≡ replay (setting ts) [] X
 replay-turns = set-replay-enough
 
-pub next-start-turns : (bytes : List ℕ) (ts : List Task) (turns : ℕ) (a : Standing (List ℕ)) → hyperperiod ts < turns →
+pub next-start-turns : (bytes : List ℕ) (ts : Set) (turns : ℕ) (a : Standing (List ℕ)) → hyperperiod ts < turns →
     next-start-in (setting ts) (lent bytes ts) turns a ≡ next-start (setting ts) (lent bytes ts) a
 next-start-turns bytes ts turns a l =
-    enough-turns (setting ts) (lent bytes ts) (lent-in-range bytes ts) (λ x t r e. absurd (priority-runs ts (hyperperiod ts) x t r e)) (omega arith) turns
+    enough-turns (setting ts) (lent bytes ts) (lent-in-range bytes ts) (waits-later ts (hyperperiod ts)) (omega arith) turns
     (suc (hyperperiod ts)) a (omega arith) (omega arith) (omega arith) (omega arith)
 
 -- P1 TO P12, and document 000's figure 1, in a single table

@@ -11,15 +11,15 @@ use lib.Dec.{ltb, leb}
 use lib.ListN.{length, drop, drop-of-length-le}
 use lib.Seq.{drop-cons}
 use borrow.Author.Tests.{ltb-true, leb-true, lt-ltb, le-leb}
-use Rattle.rules.specs.declared.Task.{Task}
 use Rattle.rules.specs.declared.Idle.{Idle}
 use Rattle.rules.specs.declared.Inversion.{Inversion}
 use Rattle.rules.specs.Refusals.{First, no-test, first, in-turn}
-use Rattle.rules.specs.Tasks.{both, task, jobs, hyperperiod, set-fault, set-tests}
+use Rattle.rules.specs.Tasks.{Set, both, task, jobs, hyperperiod, set-fault, set-tests}
 use Rattle.rules.specs.Setting.{Tables}
 use Rattle.rules.specs.Irregularities.{at-most}
 use Rattle.rules.specs.Judging.{idle-in-range, inversion-in-range, idles-fault, inversions-fault, records-fault}
 use Rattle.rules.specs.Order.{idle, inversion, AbovePrevious, IdleKeepsRule, PairRises, InversionKeepsRule, idle-tests, inversion-tests, record-tests}
+use Rattle.rules.specs.Image.{head-count}
 use Rattle.rules.proofs.Cases.{both-true, both-in}
 use Rattle.rules.proofs.Pairs.{at-most-lt, at-most-le, at-most-zero, at-most-true}
 use Rattle.rules.proofs.FirstTests.{none-holds, none-refuses, none-holds-both, both-none-hold, none-holds-at, none-holds-in-turn, first-then, first-rule, not-broken}
@@ -56,15 +56,15 @@ module _ (h : ℕ) (idles : List Idle) where
   keeps-idle j r = both-in _ _ (le-leb _ _ (from-previous j (r .above))) (both-in _ _ (le-leb _ _ (r .long-enough)) (lt-ltb _ _ (r .within)))
 
   -- ID records in turn, from record j on
-  idles-order : (n j left : ℕ) → j + left ≡ length idles → First (in-turn (idle-tests n h idles) j left) (idles-fault h (suc (n + j)) (idle-from j) (drop j idles))
+  idles-order : (n j left : ℕ) → j + left ≡ length idles → First (in-turn (idle-tests n h idles) j left) (idles-fault h (n + j) (idle-from j) (drop j idles))
   idles-order n j zero e = rw (drop-of-length-le idles {i = j} (omega arith)) no-test
   idles-order n j (suc left) e =
       rw (drop-cons idles j (record { start = 0; length = 0 }) (omega arith))
-      (first-then (first-rule (idle-passes j) (idle-keeps j) (keeps-idle j) 17 (suc (n + j)))
+      (first-then (first-rule (idle-passes j) (idle-keeps j) (keeps-idle j) 17 (n + j))
       (λ _. rw (← (add-suc n j)) (idles-order n (suc j) left (omega arith))))
 
 -- PV records
-module _ (ts : List Task) (h : ℕ) (p : List Inversion) where
+module _ (ts : Set) (h : ℕ) (p : List Inversion) where
   -- the pair (task, job) from which PV record j may be
   abbrev task-from : ℕ → ℕ
   task-from zero = 0
@@ -96,7 +96,7 @@ module _ (ts : List Task) (h : ℕ) (p : List Inversion) where
   inversion-keeps : (j : ℕ) → inversion-passes j ≡ true → InversionKeepsRule ts h p j
   inversion-keeps j e =
       let a = both-true (rises-from j) _ e in
-      let b = both-true (ltb (inversion p j .task) (length ts)) _ (a .1) in
+      let b = both-true (ltb (inversion p j .task) (length (ts .tasks))) _ (a .1) in
       let c = both-true (ltb (inversion p j .job) (jobs h (task ts (inversion p j .task)))) _ (b .1) in
       record { a-task = ltb-true _ _ (b .0); a-job = ltb-true _ _ (c .0); in-time = leb-true _ _ (c .1); rises = pair-rises j (a .0) }
 
@@ -106,32 +106,32 @@ module _ (ts : List Task) (h : ℕ) (p : List Inversion) where
 
   -- PV records in turn, from record j on
   inversions-order : (before j left : ℕ) → j + left ≡ length p →
-      First (in-turn (inversion-tests ts h before p) j left) (inversions-fault ts h (suc (before + j)) (task-from j) (job-from j) (drop j p))
+      First (in-turn (inversion-tests ts h before p) j left) (inversions-fault ts h (before + j) (task-from j) (job-from j) (drop j p))
   inversions-order before j zero e = rw (drop-of-length-le p {i = j} (omega arith)) no-test
   inversions-order before j (suc left) e =
       rw (drop-cons p j (record { task = 0; job = 0; delay = 0 }) (omega arith))
-      (first-then (first-rule (inversion-passes j) (inversion-keeps j) (keeps-inversion j) 17 (suc (before + j)))
+      (first-then (first-rule (inversion-passes j) (inversion-keeps j) (keeps-inversion j) 17 (before + j))
       (λ _. rw (← (add-suc before j)) (inversions-order before (suc j) left (omega arith))))
 
 -- the first fault of records is that of the first test that refuses
-pub record-order : (ts : List Task) (h : ℕ) (X : Tables) → First (record-tests ts h X) (records-fault ts h X)
+pub record-order : (ts : Set) (h : ℕ) (X : Tables) → First (record-tests ts h X) (records-fault ts h X)
 record-order ts h X =
-    let n : ℕ = length ts in
+    let n : ℕ = head-count ts in
     let m : ℕ = length (X .idles) in
     first-then (rw (add-zero n) at (idles-order h (X .idles) n 0 m (omega arith)))
     (λ _. rw (add-zero (n + m)) at (inversions-order ts h (X .inversions) (n + m) 0 (length (X .inversions)) (omega arith)))
 
 -- the set first, then its records
-pub judged-records-order : (ts : List Task) (X : Tables) →
+pub judged-records-order : (ts : Set) (X : Tables) →
     First (set-tests ts ++ record-tests ts (hyperperiod ts) X) (first (set-fault ts) (records-fault ts (hyperperiod ts) X))
 judged-records-order ts X = first-then (set-order ts) (λ _. record-order ts (hyperperiod ts) X)
 
 -- records have no fault exactly where each keeps its rule
-pub every-record-keeps : (ts : List Task) (h : ℕ) (X : Tables) →
+pub every-record-keeps : (ts : Set) (h : ℕ) (X : Tables) →
     (records-fault ts h X ≡ none)
     ↔ (((j : ℕ) → j < length (X .idles) → IdleKeepsRule h (X .idles) j) × ((j : ℕ) → j < length (X .inversions) → InversionKeepsRule ts h (X .inversions) j))
 every-record-keeps ts h X =
-    let n : ℕ = length ts in
+    let n : ℕ = head-count ts in
     let before : ℕ = n + length (X .idles) in
     let k : List Idle = X .idles in
     let p : List Inversion = X .inversions in (

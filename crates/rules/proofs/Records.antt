@@ -6,14 +6,14 @@ use Prim.Native.Nat.{ℕ, suc, _+_}
 use lib.Dec.{leb}
 use lib.ListN.{length}
 use borrow.Author.Tests.{ltb-true, leb-true, lt-ltb, le-leb}
-use Rattle.rules.specs.declared.Task.{Task}
 use Rattle.rules.specs.declared.Idle.{Idle}
 use Rattle.rules.specs.declared.Inversion.{Inversion}
 use Rattle.rules.specs.Refusals.{unless}
-use Rattle.rules.specs.Tasks.{both}
+use Rattle.rules.specs.Tasks.{Set, both}
 use Rattle.rules.specs.Setting.{Tables}
 use Rattle.rules.specs.Irregularities.{at-most}
 use Rattle.rules.specs.Judging.{idle-in-range, inversion-in-range, idles-fault, inversions-fault, records-fault}
+use Rattle.rules.specs.Image.{head-count}
 use Rattle.rules.proofs.Cases.{both-true, first-none, none-first, unless-none}
 use Rattle.rules.proofs.Theory.{Rising, Pairs}
 use Rattle.rules.proofs.Derived.{Every}
@@ -34,7 +34,7 @@ rising-faultless h place from (r ∷ idles) z =
     rw (le-leb _ _ (z .0), le-leb _ _ (z .1), lt-ltb _ _ (z .2)) (rising-faultless h (suc place) (suc (r .start + r .length)) idles (z .3))
 
 -- inversion records without a fault have rising pairs, and each is in its range
-pub faultless-pairs : (ts : List Task) (h place i k : ℕ) (p : List Inversion) → inversions-fault ts h place i k p ≡ none →
+pub faultless-pairs : (ts : Set) (h place i k : ℕ) (p : List Inversion) → inversions-fault ts h place i k p ≡ none →
     Pairs i k p × Every (inversion-in-range ts h) p
 faultless-pairs ts h place i k [] e = (tt, tt)
 faultless-pairs ts h place i k (r ∷ p) e =
@@ -44,26 +44,26 @@ faultless-pairs ts h place i k (r ∷ p) e =
     ((b .0, c .0), (b .1, c .1))
 
 -- and such records have none
-pub pairs-faultless : (ts : List Task) (h place i k : ℕ) (p : List Inversion) → Pairs i k p → Every (inversion-in-range ts h) p →
+pub pairs-faultless : (ts : Set) (h place i k : ℕ) (p : List Inversion) → Pairs i k p → Every (inversion-in-range ts h) p →
     inversions-fault ts h place i k p ≡ none
 pairs-faultless ts h place i k [] z y = refl
 pairs-faultless ts h place i k (r ∷ p) z y = rw (z .0, y .0) (pairs-faultless ts h (suc place) (r .task) (suc (r .job)) p (z .1) (y .1))
 
 -- tables whose records keep their rules
-pub record RecordsKeepRules (ts : List Task) (h : ℕ) (X : Tables) : Type 0 where
+pub record RecordsKeepRules (ts : Set) (h : ℕ) (X : Tables) : Type 0 where
   pub rising : Rising h 0 (X .idles)
   pub pairs : Pairs 0 0 (X .inversions)
   pub in-range : Every (inversion-in-range ts h) (X .inversions)
 
 -- tables without a fault in their records keep their rules
-pub records-keep : (ts : List Task) (h : ℕ) (X : Tables) → records-fault ts h X ≡ none → RecordsKeepRules ts h X
+pub records-keep : (ts : Set) (h : ℕ) (X : Tables) → records-fault ts h X ≡ none → RecordsKeepRules ts h X
 records-keep ts h X e =
-    let a = first-none (idles-fault h (suc (length ts)) 0 (X .idles)) _ e in
-    let b = faultless-pairs ts h (suc (length ts + length (X .idles))) 0 0 (X .inversions) (a .1) in
-    record { rising = faultless-rising h (suc (length ts)) 0 (X .idles) (a .0); pairs = b .0; in-range = b .1 }
+    let a = first-none (idles-fault h (head-count ts) 0 (X .idles)) _ e in
+    let b = faultless-pairs ts h (head-count ts + length (X .idles)) 0 0 (X .inversions) (a .1) in
+    record { rising = faultless-rising h (head-count ts) 0 (X .idles) (a .0); pairs = b .0; in-range = b .1 }
 
 -- and tables that keep them have no fault in their records
-pub keep-records : (ts : List Task) (h : ℕ) (X : Tables) → RecordsKeepRules ts h X → records-fault ts h X ≡ none
+pub keep-records : (ts : Set) (h : ℕ) (X : Tables) → RecordsKeepRules ts h X → records-fault ts h X ≡ none
 keep-records ts h X k =
-    none-first (idles-fault h (suc (length ts)) 0 (X .idles)) _ (rising-faultless h (suc (length ts)) 0 (X .idles) (k .rising))
-    (pairs-faultless ts h (suc (length ts + length (X .idles))) 0 0 (X .inversions) (k .pairs) (k .in-range))
+    none-first (idles-fault h (head-count ts) 0 (X .idles)) _ (rising-faultless h (head-count ts) 0 (X .idles) (k .rising))
+    (pairs-faultless ts h (head-count ts + length (X .idles)) 0 0 (X .inversions) (k .pairs) (k .in-range))

@@ -8,20 +8,20 @@ use mathlib.Core.Option.{Option, some}
 use Prim.Native.Nat.{ℕ, zero, suc, _+_, _≤_}
 use native.Mathlib.Omega.{arith}
 use lib.Dec.{leb}
-use lib.ListN.{length, take}
+use lib.ListN.{length}
 use borrow.Author.Tests.{leb-true}
-use Rattle.rules.specs.declared.Task.{Task}
 use Rattle.rules.specs.declared.Entry.{Entry}
 use Rattle.rules.specs.declared.TaskSet.{TaskSet}
 use Rattle.rules.specs.declared.Refusal.{Refusal}
 use Rattle.rules.specs.declared.CheckAnswer.the-variants.{Refused}
 use Rattle.rules.specs.Refusals.{Test, in-turn, First, no-test, holds, passes}
-use Rattle.rules.specs.Tasks.{both, hyperperiod, task-tests, set-tests, memory-fault}
+use Rattle.rules.specs.Tasks.{Set, both, hyperperiod, task-tests, set-tests, memory-fault, memory-set}
 use Rattle.rules.specs.Setting.{Tables}
 use Rattle.rules.specs.Order.{entry-tests, missing-tests, timetable-tests, idle-tests, inversion-tests, record-tests, RefusesTables}
 use Rattle.rules.specs.Framing.{start-place, RefusesFraming}
 use Rattle.rules.specs.Operations.{check-timetable, check-tables}
 use Rattle.rules.specs.Promised.{RefusesTimetableImage, RefusesTableImage}
+use Rattle.rules.specs.Image.{head-count}
 use Rattle.rules.proofs.Cases.{clash, both-true}
 use Rattle.rules.proofs.GoodSets.{memory-order}
 use Rattle.rules.proofs.FramingOrder.{framing-order, framing-numbers}
@@ -72,38 +72,38 @@ framing-low : {kind : ℕ} {bytes : List ℕ} {r : Refusal} → RefusesFraming k
 framing-low {kind} {bytes} {r} q = listed-from-to 1 10 _ refl (framing-numbers kind bytes r (framing-order kind bytes r .1 q))
 
 -- the tests of a set have numbers from 5 to 9, and every property that these have
-set-numbered : (P : ℕ → Type 0) → ((n : ℕ) → From-to 5 9 n → P n) → (ts : List Task) → Numbered P (set-tests ts)
+set-numbered : (P : ℕ → Type 0) → ((n : ℕ) → From-to 5 9 n → P n) → (ts : Set) → Numbered P (set-tests ts)
 set-numbered P low ts =
     let each : (n : ℕ) → both (leb 5 n) (leb n 9) ≡ true → P n = λ n e. low n (from-to 5 9 n e) in (
       each 5 refl,
-      numbered-both P (in-turn (task-tests ts) 0 (length ts)) _ (numbered-in-turn P (task-tests ts) (λ i. (each 6 refl, (each 7 refl, tt))) 0 (length ts))
+      numbered-both P (in-turn (task-tests ts) 0 (length (ts .tasks))) _ (numbered-in-turn P (task-tests ts) (λ i. (each 6 refl, (each 7 refl, tt))) 0 (length (ts .tasks)))
           (each 8 refl, (each 9 refl, tt)),
     )
 
 -- all tests of a set and its timetable have numbers from 1 to 16
-timetable-numbered : (ts : List Task) (h : ℕ) (τ : List Entry) → Numbered (From-to 1 16) (set-tests ts ++ timetable-tests ts h τ)
+timetable-numbered : (ts : Set) (h : ℕ) (τ : List Entry) → Numbered (From-to 1 16) (set-tests ts ++ timetable-tests ts h τ)
 timetable-numbered ts h τ =
     let each : (n : ℕ) → both (leb 1 n) (leb n 16) ≡ true → From-to 1 16 n = from-to 1 16 in
     numbered-both (From-to 1 16) (set-tests ts) _ (set-numbered (From-to 1 16) (λ n l. (omega (arith, l .0), omega (arith, l .1))) ts)
     (numbered-both (From-to 1 16) (in-turn (entry-tests ts h τ) 0 (length τ)) _
     (numbered-in-turn (From-to 1 16) (entry-tests ts h τ) (λ j. (each 11 refl, (each 12 refl, (each 13 refl, (each 14 refl, (each 15 refl, tt)))))) 0 (length τ))
-    (numbered-in-turn (From-to 1 16) (missing-tests ts h τ) (λ i. (each 16 refl, tt)) 0 (length ts)))
+    (numbered-in-turn (From-to 1 16) (missing-tests ts h τ) (λ i. (each 16 refl, tt)) 0 (length (ts .tasks))))
 
 -- the numbers of tables: 1 to 10 and 17 to 19
 abbrev TableNumber : ℕ → Type 0
 TableNumber n = From-to 1 10 n ⊎ From-to 17 19 n
 
 -- all tests of a set and its records have them
-records-numbered : (ts : List Task) (h : ℕ) (X : Tables) → Numbered TableNumber (set-tests ts ++ record-tests ts h X)
+records-numbered : (ts : Set) (h : ℕ) (X : Tables) → Numbered TableNumber (set-tests ts ++ record-tests ts h X)
 records-numbered ts h X =
     let n : ℕ = length (X .idles) in
     numbered-both TableNumber (set-tests ts) _ (set-numbered TableNumber (λ n l. inl (omega (arith, l .0), omega (arith, l .1))) ts)
-    (numbered-both TableNumber (in-turn (idle-tests (length ts) h (X .idles)) 0 n) _
-    (numbered-in-turn TableNumber (idle-tests (length ts) h (X .idles)) (λ j. (inr (from-to 17 19 17 refl), tt)) 0 n)
-    (numbered-in-turn TableNumber (inversion-tests ts h (length ts + n) (X .inversions)) (λ j. (inr (from-to 17 19 17 refl), tt)) 0 (length (X .inversions))))
+    (numbered-both TableNumber (in-turn (idle-tests (head-count ts) h (X .idles)) 0 n) _
+    (numbered-in-turn TableNumber (idle-tests (head-count ts) h (X .idles)) (λ j. (inr (from-to 17 19 17 refl), tt)) 0 n)
+    (numbered-in-turn TableNumber (inversion-tests ts h (head-count ts + n) (X .inversions)) (λ j. (inr (from-to 17 19 17 refl), tt)) 0 (length (X .inversions))))
 
 -- what refuses tables has one of these numbers
-tables-number : {ts : List Task} {X : Tables} {r : Refusal} → RefusesTables ts X r → TableNumber (r .number)
+tables-number : {ts : Set} {X : Tables} {r : Refusal} → RefusesTables ts X r → TableNumber (r .number)
 tables-number {ts} {X} {r} (RefusesTables.by-a-test f) = first-numbered TableNumber f (records-numbered ts (hyperperiod ts) X) r refl
 tables-number (RefusesTables.late-job f late) = inr (from-to 17 19 18 refl)
 tables-number (RefusesTables.difference f q differ) = inr (from-to 17 19 19 refl)
@@ -112,7 +112,7 @@ tables-number (RefusesTables.difference f q differ) = inr (from-to 17 19 19 refl
 timetable-image-number : {bytes : List ℕ} {r : Refusal} → RefusesTimetableImage bytes r → From-to 1 16 (r .number)
 timetable-image-number (RefusesTimetableImage.by-framing q) = let l = framing-low q in (l .0, omega (arith, l .1))
 timetable-image-number {r = r} (RefusesTimetableImage.by-a-test {i = i} q f) =
-    first-numbered (From-to 1 16) f (timetable-numbered (i .tasks) (hyperperiod (i .tasks)) (i .entries)) r refl
+    first-numbered (From-to 1 16) f (timetable-numbered (i .set) (hyperperiod (i .set)) (i .entries)) r refl
 
 -- what refuses a table image has a number from 1 to 10 or 17 to 19
 table-image-number : {bytes : List ℕ} {r : Refusal} → RefusesTableImage bytes r → TableNumber (r .number)
@@ -122,7 +122,7 @@ table-image-number (RefusesTableImage.by-its-tables q f) = tables-number f
 -- judging a set refuses with 5 to 9
 pub set-numbers : (s : TaskSet) (r : Refusal) → memory-fault s ≡ some r → (5 ≤ r .number) × (r .number ≤ 9)
 set-numbers s r e =
-    first-numbered (From-to 5 9) (memory-order s) (from-to 5 9 5 refl, set-numbered (From-to 5 9) (λ n l. l) (take (s .n) (s .tasks))) r e
+    first-numbered (From-to 5 9) (memory-order s) (from-to 5 9 5 refl, set-numbered (From-to 5 9) (λ n l. l) (memory-set s)) r e
 
 module _ (bytes : List ℕ) (r : Refusal) where
   -- checking a timetable image refuses with 1 to 16

@@ -3,20 +3,20 @@ use mathlib.Core.Path.{_≡_, refl, sym, _∙_, ap}
 use mathlib.Core.Bool.{true, false}
 use mathlib.Core.List.{List, [], _∷_}
 use mathlib.Core.Option.{Option, none, some}
-use Prim.Native.Nat.{ℕ, zero, suc, _+_, _≤_}
+use Prim.Native.Nat.{ℕ, zero, suc, _≤_}
 use native.Mathlib.Omega.{arith}
-use lib.Dec.{ltb, eqb}
+use lib.Dec.{eqb}
 use borrow.Author.Tests.{eqb-true}
 use Rattle.rules.specs.declared.Entry.{Entry}
 use Rattle.rules.specs.declared.Idle.{Idle}
 use Rattle.rules.specs.declared.Inversion.{Inversion}
 use Rattle.rules.specs.Refusals.{gives, refuses, refusal}
-use Rattle.rules.specs.Setting.{Setting, Tables, run, wait, lowest, instant}
+use Rattle.rules.specs.Setting.{Setting, Tables, run, wait, lowest}
 use Rattle.rules.specs.Irregularities.{tables-of}
-use Rattle.rules.specs.Decision.{idle-for, start-task, wait-till, idles-till, starts, waits-till, idle-at, first-idle, later-idles, as-baseline, start-before, recorded, step, delays, replay-from, replay}
+use Rattle.rules.specs.Decision.{idle-for, start-task, wait-till, idles-till, starts, waits-till, idle-at, first-idle, later-idles, as-baseline, recorded, step, delays, replay-from, replay}
 use Rattle.rules.proofs.Cases.{by-bool, by-act, by-option, by-step, by-judged, clash, gives-in}
 use Rattle.rules.proofs.Theory.{Laws, ValidFrom, finished, entry}
-use Rattle.rules.proofs.Steps.{decide-waits, by-turn-of, idle-used, starts-forward, waits-forward}
+use Rattle.rules.proofs.Steps.{decide-waits, idle-used, starts-forward, waits-forward}
 use Rattle.rules.proofs.RoundTrip.{decided-by, inversion-next, baseline-last, round-trip}
 
 -- an idle record that starts at an instant
@@ -53,29 +53,6 @@ module _ (G : Setting) where
   waits-by-baseline x t idles p r h = decide-waits G x t (first-idle idles t) (delays G p x) r h
 
   module _ {A : Type 0} (turns : ℕ) (x : G .Started) (f : ℕ) (idles : List Idle) (p : List Inversion) where
-    -- one turn of replay: all has started, or it idles, starts a job, refuses to start it, waits, or would wait past the end of the cycle
-    pub by-turn : (G .all-started x ≡ true → replay-from G (suc turns) x f idles p ≡ gives [] → A) →
-        ((l : ℕ) → G .all-started x ≡ false → decided-by G x (instant G x f) idles p ≡ idle-for l →
-        replay-from G (suc turns) x f idles p ≡ replay-from G turns x (instant G x f + l) (later-idles idles) p → A) →
-        ((i : ℕ) → G .all-started x ≡ false → decided-by G x (instant G x f) idles p ≡ start-task i →
-        G .breaks-in-replay x (instant G x f) i (instant G x f) ≡ 0 →
-        replay-from G (suc turns) x f idles p
-        ≡ start-before (record { task = i; start = instant G x f })
-        (replay-from G turns (G .start-job x i) (G .free-after i (instant G x f)) idles p) → A) →
-        ((i number : ℕ) → G .all-started x ≡ false → decided-by G x (instant G x f) idles p ≡ start-task i →
-        G .breaks-in-replay x (instant G x f) i (instant G x f) ≡ suc number →
-        replay-from G (suc turns) x f idles p ≡ refuses (refusal (suc number) 0) → A) →
-        ((r : ℕ) → G .all-started x ≡ false → decided-by G x (instant G x f) idles p ≡ wait-till r → ltb r (G .cycle-end) ≡ true →
-        replay-from G (suc turns) x f idles p ≡ replay-from G turns x r idles p → A) →
-        ((r : ℕ) → G .all-started x ≡ false → decided-by G x (instant G x f) idles p ≡ wait-till r → ltb r (G .cycle-end) ≡ false →
-        replay-from G (suc turns) x f idles p ≡ refuses (refusal 18 0) → A) →
-        A
-    by-turn ends idling starting refusing waiting past =
-        by-bool (G .all-started x) (λ o. ends o (rw (o, replay-from)))
-        (λ o. by-turn-of G x f (first-idle idles) (delays G p x) (λ l d s. idling l o d (rw (o, s, replay-from)))
-        (λ i d e s. starting i o d e (rw (o, s, replay-from))) (λ i number d e s. refusing i number o d e (rw (o, s, replay-from)))
-        (λ r d c s. waiting r o d c (rw (o, s, replay-from))) (λ r d c s. past r o d c (rw (o, s, replay-from))))
-
     -- how replay comes to give a timetable: all has started, or it idles, starts a job or waits, and goes on
     pub by-replay : (τ : List Entry) → replay-from G (suc turns) x f idles p ≡ gives τ → (G .all-started x ≡ true → τ ≡ [] → A) →
         ((r : ℕ) → G .all-started x ≡ false → step G x f (first-idle idles) (delays G p x) ≡ idles-till r →

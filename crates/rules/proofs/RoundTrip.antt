@@ -6,7 +6,7 @@ use mathlib.Core.Option.{none, some}
 use Prim.Native.Nat.{ℕ, zero, suc, _+_, _-_, _≤_, _<_}
 use native.Mathlib.Omega.{arith}
 use lib.Dec.{ltb, leb}
-use borrow.Author.Tests.{ltb-true, ltb-false, leb-true, eqb-true, eq-eqb, ne-eqb}
+use borrow.Author.Tests.{ltb-true, ltb-false, leb-true, eqb-true, eq-eqb}
 use Rattle.rules.specs.declared.Entry.{Entry}
 use Rattle.rules.specs.declared.Idle.{Idle}
 use Rattle.rules.specs.declared.Inversion.{Inversion}
@@ -19,6 +19,7 @@ use Rattle.rules.proofs.Theory.{Laws, ValidFrom, finished, entry}
 use Rattle.rules.proofs.Lowest.{lowest-from-empty, lowest-from-one}
 use Rattle.rules.proofs.Pairs.{delay-insert-same, delay-insert-other}
 use Rattle.rules.proofs.Steps.{step-idles, step-waits, step-starts, step-refuses}
+use Rattle.rules.proofs.Gaps.{gap-later}
 
 -- what replay decides at an instant, by the unused idle records and the inversion records
 abbrev pub decided-by : (G : Setting) → G .Started → ℕ → List Idle → List Inversion → Choice
@@ -82,16 +83,6 @@ runs-run (run j) i h = ap run (eqb-true j i h)
 runs-run (wait r) i h = differ (sym h)
 
 module _ (G : Setting) (L : Laws G) where
-  -- the idle record of a later gap does not start now
-  gap-later : (turns : ℕ) (x : G .Started) (t r s : ℕ) (k : List Idle) → t < r → first-idle k t ≡ none → first-idle (gap G turns x r s ++ k) t ≡ none
-  gap-later zero x t r s k h a = a
-  gap-later (suc turns) x t r s k h a =
-      by-bool (ltb r s)
-      (λ b. by-act (G .baseline x r) (λ j c. rw (b, c, gap) (rw (ne-eqb r t (omega arith), idle-at)))
-      (λ w c. by-bool (leb w s) (λ d. rw (b, c, d, gap) (gap-later turns x t w s k (omega (arith, L .waits-later x r w c)) a))
-      (λ d. rw (b, c, d, gap) (rw (ne-eqb r t (omega arith), idle-at)))))
-      (λ b. rw (b, gap) a)
-
   -- replay from an instant t to the next start s, by the idle record of that gap and the baseline's own waits
   module _ (x : G .Started) (s : ℕ) (k : List Idle) (p : List Inversion) (goal : Judged (List Entry)) (left : G .all-started x ≡ false)
       (in-cycle : s < G .cycle-end) (calm : (u : ℕ) → u < s → lowest (G .tasks) (recorded G (delays G p x) x u) ≡ none)
@@ -121,7 +112,7 @@ module _ (G : Setting) (L : Laws G) where
         let g : w ≤ s = leb-true w s d in
         let idles : List Idle = gap G m x w s ++ k in
         turn-waits G N x f t idles p q left w
-        (baseline-last G x t idles p (gap-later m x t w s k v (later t hi)) (calm t (ltb-true t s b)) ∙ ap as-baseline c) (omega arith)
+        (baseline-last G x t idles p (gap-later G L m x t w s k v (later t hi)) (calm t (ltb-true t s b)) ∙ ap as-baseline c) (omega arith)
         ∙ through-gap m N w w (omega arith) g (omega arith) (omega arith) (λ M y e z. go M y e (omega arith))))
         (λ d. rw (b, c, d, gap) (idles-to N f t q (ltb-true t s b) go))))
         (λ b. rw (b, gap) (go (suc N) f (omega (arith, ltb-false t s b)) (omega arith)))
@@ -158,10 +149,10 @@ module _ (G : Setting) (L : Laws G) where
   Agree x τ p = (i k : ℕ) → G .next-job x i ≤ k → delay-of p i k ≡ delay-of (inversions G x τ) i k
 
   -- no idle record of what is left starts before it
-  idles-later : {x : G .Started} {f : ℕ} {τ : List Entry} → ValidFrom G x f τ → (u : ℕ) → u < f → first-idle (forced-idles G x f τ) u ≡ none
+  pub idles-later : {x : G .Started} {f : ℕ} {τ : List Entry} → ValidFrom G x f τ → (u : ℕ) → u < f → first-idle (forced-idles G x f τ) u ≡ none
   idles-later (finished o) u h = refl
   idles-later (entry {x = x} {f = f} {e = e} {τ = τ} v w) u h =
-      gap-later (e .start) x u (instant G x f) (e .start) (forced-idles G (G .start-job x (e .task)) (G .free-after (e .task) (e .start)) τ) (omega arith)
+      gap-later G L (e .start) x u (instant G x f) (e .start) (forced-idles G (G .start-job x (e .task)) (G .free-after (e .task) (e .start)) τ) (omega arith)
       (idles-later w u (omega (arith, L .no-overlap x f (e .task) (e .start) v, L .free-later (e .task) (e .start))))
 
   module _ (x : G .Started) (f : ℕ) (e : Entry) (τ : List Entry) (p : List Inversion) (v : G .breaks x f (e .task) (e .start) ≡ 0)

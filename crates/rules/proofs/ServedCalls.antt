@@ -4,7 +4,6 @@ use mathlib.Core.List.{List}
 use Prim.Native.Nat.{ℕ, zero, suc, _+_, _*_, _-_, _≤_, _<_}
 use native.Mathlib.Omega.{arith}
 use lib.ListN.{length}
-use Rattle.rules.specs.declared.Task.{Task}
 use Rattle.rules.specs.declared.Entry.{Entry}
 use Rattle.rules.specs.declared.Start.{Start as StartOf}
 use Rattle.rules.specs.declared.StartAnswer.{StartAnswer}
@@ -12,13 +11,13 @@ use Rattle.rules.specs.declared.StartAnswer.the-variants.{Start}
 use Rattle.rules.specs.declared.Dispatcher.{Dispatcher as State}
 use Rattle.rules.specs.declared.Turn.{Turn}
 use Rattle.rules.specs.Refusals.{refusal}
-use Rattle.rules.specs.Tasks.{hyperperiod}
+use Rattle.rules.specs.Tasks.{Set, hyperperiod}
 use Rattle.rules.specs.Setting.{Tables}
 use Rattle.rules.specs.Dispatcher.{began, latest-end, refused, last-cycle, go-on, begin}
 use Rattle.rules.specs.Calls.{Honest, Log, begun, went-on, too-early, start-of}
 use Rattle.rules.proofs.Serving.{first-turn, Serves, At, Served, serves-first, serves-within, serves-next-cycle, refuses-early, refuses-after, began-at, latest-end-at}
 
-module _ (bytes : List ℕ) (ts : List Task) (X : Tables) (τ : List Entry) (g : Served bytes ts X τ) where
+module _ (bytes : List ℕ) (ts : Set) (X : Tables) (τ : List Entry) (g : Served bytes ts X τ) where
   -- the last answer is entry r of cycle c, and the state is the one after it
   pub record ServedTo (c r : ℕ) (a : StartAnswer) (d : State) : Type 0 where
     pub answers : a ≡ Start (start-of (hyperperiod ts) τ c r)
@@ -77,7 +76,7 @@ module _ (bytes : List ℕ) (ts : List Task) (X : Tables) (τ : List Entry) (g :
   after-too-early before end early e c r i lt le =
       let v = before c r i lt le in record { answers = v .answers; at = rw (e, early-refused v lt end early) (v .at) }
 
-  module _ (begins : begin bytes ≡ first-turn bytes ts X) where
+  module _ (begins : begin bytes ≡ first-turn bytes (record { set = ts; tables = X })) where
     -- and after beginning
     after-beginning : {turn : Turn} → turn ≡ begin bytes → InService 0 (turn .answer) (turn .state)
     after-beginning e zero zero _ lt le = rw (e, begins) (served-to (serves-first bytes ts X τ g lt))

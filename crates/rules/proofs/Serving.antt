@@ -1,77 +1,65 @@
 -- The dispatcher in service: the state after each entry of each cycle, and the turn from there. Assumes nothing.
 use mathlib.Core.Path.{_≡_, refl, sym, _∙_, ap}
 use mathlib.Core.Bool.{true, false}
-use mathlib.Core.List.{List, []}
+use mathlib.Core.List.{List, [], _∷_, _++_}
 use mathlib.Core.Option.{none}
 use Prim.Native.Nat.{ℕ, suc, _+_, _*_, _-_, _≤_, _<_}
 use native.Mathlib.Omega.{arith}
 use lib.Dec.{ltb}
 use lib.ListN.{length, take, drop, replicate, drop-of-length-le, length-append, length-replicate}
-use lib.Seq.{take-suc, drop-cons, take-at}
+use lib.Seq.{take-suc, drop-cons}
 use borrow.Author.Tests.{lt-ltb, le-ltb, le-leb, eq-eqb, ne-eqb}
-use Rattle.rules.specs.declared.Task.{Task}
 use Rattle.rules.specs.declared.Entry.{Entry}
-use Rattle.rules.specs.declared.Idle.{Idle}
 use Rattle.rules.specs.declared.Start.{Start as StartOf}
 use Rattle.rules.specs.declared.StartAnswer.the-variants.{Start}
 use Rattle.rules.specs.declared.Dispatcher.{Dispatcher as State}
 use Rattle.rules.specs.declared.Turn.{Turn}
-use Rattle.rules.specs.Refusals.{gives, refusal}
-use Rattle.rules.specs.Tasks.{limits, task, hyperperiod, few-enough, GoodSet, set-fault}
-use Rattle.rules.specs.Timetable.{entry-at, count, job-at, ValidTimetable}
+use Rattle.rules.specs.Refusals.{Judged, gives, refuses, refusal}
+use Rattle.rules.specs.Tasks.{Set, limits, task, hyperperiod, few-enough, GoodSet, set-fault}
+use Rattle.rules.specs.Timetable.{entry-at, job-at, ValidTimetable}
 use Rattle.rules.specs.Setting.{Tables}
 use Rattle.rules.specs.Priority.{slot, start-job, all-started, setting}
 use Rattle.rules.specs.Decision.{replay-from, replay}
+use Rattle.rules.specs.Judging.{tables}
+use Rattle.rules.specs.Operations.{Tabled}
 use Rattle.rules.specs.Offsets.{Standing, standing, next-is, next-start, moved, lent, first-offsets}
-use Rattle.rules.specs.Dispatcher.{Shaped, zeros, zero-task, set-of, counts-possible, is-stopped, possible, began, latest-end, refused, started, start-next, last-cycle, after-running, at-cycle-start, next-turn, go-on, fresh, at-begin}
+use Rattle.rules.specs.Dispatcher.{Shaped, zeros, zero-task, set-of, is-stopped, possible, began, latest-end, refused, started, start-next, last-cycle, after-running, at-cycle-start, next-turn, go-on, fresh, at-begin}
 use Rattle.rules.specs.Calls.{start-of}
-use Rattle.rules.proofs.Cases.{by-eq, both-in}
-use Rattle.rules.proofs.Theory.{Laws, Pairs}
-use Rattle.rules.proofs.PriorityLaws.{slot-empty, keeps-rules, slot-start-same, slot-start-other}
-use Rattle.rules.proofs.Arrays.{slot-zeros, start-length, put-length, front-length, first-length}
+use Rattle.rules.specs.Image.{head-length}
+use Rattle.rules.proofs.Cases.{both-in, clash}
+use Rattle.rules.proofs.PriorityLaws.{slot-empty, slot-start-same}
+use Rattle.rules.proofs.Arrays.{start-length, put-length, front-length, first-length, memory-keeps}
 use Rattle.rules.proofs.Replayed.{replay-left, replay-end}
-use Rattle.rules.proofs.Positions.{count-more, count-same}
-use Rattle.rules.proofs.Shown.{ShowsIdles, ShowsInversions, from, slot-front}
-use Rattle.rules.proofs.Starts.{Placed, first-start}
-use Rattle.rules.proofs.Slots.{Same, replay-same, counts-zero, counts-start}
+use Rattle.rules.proofs.Images.{records-before}
+use Rattle.rules.proofs.StuckStarts.{by-next}
+use Rattle.rules.proofs.Shown.{slot-front}
+use Rattle.rules.proofs.Slots.{Same}
+use Rattle.rules.proofs.ShownAt.{Stand}
+use Rattle.rules.proofs.OneMoreStart.{starts-given, start-given, after-counts}
+use Rattle.rules.proofs.OffsetReplay.{zeros-same, ReplaysAt, replay-begins, replay-starts, replay-stuck, next-replayed}
+use Rattle.rules.proofs.KeptOffsets.{kept-behind, Keeps, keeps-begin, keeps-starts}
 
 -- a start answered, with the state beside it
 abbrev pub answered : StartOf → State → Turn
 answered a s = record { answer = Start a; state = s }
 
 -- the turn that makes the first start
-abbrev pub first-turn : List ℕ → List Task → Tables → Turn
-first-turn bytes ts X =
-    start-next bytes (fresh (record { tasks = ts; tables = X })) 0 (at-begin (fresh (record { tasks = ts; tables = X })))
+abbrev pub first-turn : List ℕ → Tabled → Turn
+first-turn bytes i = start-next bytes (fresh i) 0 (at-begin (fresh i))
 
--- next job numbers that count the entries before entry r count, after it has started, those before the next
-counts-more : (n : ℕ) (τ : List Entry) (r : ℕ) → r < length τ → (x : List ℕ) → ((i : ℕ) → i < n → slot x i ≡ count i (take r τ)) →
-    (j : ℕ) → j < n → slot (start-job x (entry-at τ r .task)) j ≡ count j (take (suc r) τ)
-counts-more n τ r lt x counts j l =
-    let e : Entry = entry-at τ r in
-    rw (take-suc τ r (record { task = 0; start = 0 }) lt)
-    (by-eq j (e .task)
-    (λ u. rw u (slot-start-same x (e .task) ∙ ap suc (counts (e .task) (omega arith)) ∙ sym (count-more e (take r τ))))
-    (λ u. slot-start-other x (e .task) j u ∙ counts j l ∙ sym (count-same j e (take r τ) u)))
-
-module _ (bytes : List ℕ) (ts : List Task) (X : Tables) (τ : List Entry) where
+module _ (bytes : List ℕ) (ts : Set) (X : Tables) (τ : List Entry) where
   -- what a state keeps of the image for all cycles: the set, and the offsets as at a cycle's start
   pub record Kept (s : State) : Type 0 where
     pub slots : length (s .set .tasks) ≡ limits .tasks
     pub same-set : set-of s ≡ ts
-    pub tasks : s .set .n ≡ length ts
+    pub tasks : s .set .n ≡ length (ts .tasks)
     pub first : s .first ≡ first-offsets ts X
 
   -- entry r of a cycle is next
   pub record Ready (r : ℕ) (a : Standing (List ℕ)) : Type 0 where
-    pub turns : ℕ
-    pub enough : turns ≤ suc (hyperperiod ts)
-    pub idles : List Idle
-    pub rest : replay-from (setting ts) turns (a .next) (a .free) idles (X .inversions) ≡ gives (drop r τ)
-    pub idles-shown : ShowsIdles (lent bytes ts) (a .idle) idles
-    pub placed : Placed (setting ts) (lent bytes ts) (X .inversions) (a .next) (a .offsets)
-    pub possible-counts : counts-possible (hyperperiod ts) ts (a .next) ≡ true
-    pub counts : (i : ℕ) → i < length ts → slot (a .next) i ≡ count i (take r τ)
+    pub replays : ReplaysAt bytes ts X (take r τ) (a .next) (a .free) (a .offsets) (a .idle)
+    pub kept : ℕ
+    pub keeps : Keeps ts X (take r τ) (a .next) (a .free) (a .idle) kept
     pub next-slots : length (a .next) ≡ limits .tasks
     pub offset-slots : length (a .offsets) ≡ limits .tasks
 
@@ -91,106 +79,123 @@ module _ (bytes : List ℕ) (ts : List Task) (X : Tables) (τ : List Entry) wher
     pub answers : turn ≡ answered (start-of (hyperperiod ts) τ c r) state
     pub at : At c r state
 
-  -- with an entry left not all jobs have started
-  not-all-started : {r : ℕ} {a : Standing (List ℕ)} → Ready r a → r < length τ → all-started (hyperperiod ts) ts (a .next) ≡ false
-  not-all-started {r = r} {a = a} re lt =
-      replay-left (setting ts) (re .turns) (a .next) (a .free) (re .idles) (X .inversions) (entry-at τ r) (drop (suc r) τ)
-      (re .rest ∙ ap gives (drop-cons τ r (record { task = 0; start = 0 }) lt))
-
-  -- and with none left they have
-  all-have-started : {r : ℕ} {a : Standing (List ℕ)} → Ready r a → length τ ≤ r → all-started (hyperperiod ts) ts (a .next) ≡ true
-  all-have-started {r = r} {a = a} re le =
-      replay-end (setting ts) (re .turns) (a .next) (a .free) (re .idles) (X .inversions) (re .rest ∙ ap gives (drop-of-length-le τ {i = r} le))
-
-  -- what the dispatcher goes by: a set without a fault, the tables that replay to a valid timetable, and offsets that show them
+  -- what the dispatcher goes by: a set without a fault, and tables that stand in the image, replay to a valid timetable and are its own
   pub record Served : Type 0 where
     pub sound : set-fault ts ≡ none
     pub good : GoodSet ts (hyperperiod ts)
-    pub laws : Laws (setting ts)
-    pub pairs : Pairs 0 0 (X .inversions)
+    pub stand : Stand bytes ts X (records-before ts X)
     pub whole : replay (setting ts) [] X ≡ gives τ
+    pub own : tables ts τ ≡ X
     pub valid : ValidTimetable ts (hyperperiod ts) τ
-    pub idles-first : ShowsIdles (lent bytes ts) (first-offsets ts X .idle) (X .idles)
-    pub inversions-first : (i : ℕ) → i < length ts → ShowsInversions (lent bytes ts) (slot (first-offsets ts X .inversions) i) (from i 0 (X .inversions))
 
   module _ (g : Served) where
-    -- the entry that is next starts
-    serves-next : (c r : ℕ) (a : Standing (List ℕ)) (s : State) → r < length τ → Kept s → Ready r a → Serves c r (start-next bytes s c a)
-    serves-next c r a s lt ke re =
-        let e : Entry = entry-at τ r in
-        let i : ℕ = e .task in
-        first-start (setting ts) (lent bytes ts) (X .inversions) (g .laws) (g .pairs) (re .turns) a (re .idles) e (drop (suc r) τ) (re .enough)
-        (re .rest ∙ ap gives (drop-cons τ r (record { task = 0; start = 0 }) lt)) (re .placed) (re .idles-shown)
-        (λ K w k less b n shown rest placed.
-        let keep = keeps-rules ts (hyperperiod ts) (a .next) (a .free) i (e .start) b in
-        let job : slot (a .next) i ≡ job-at τ r = re .counts i (keep .a-task) in
-        let n′ : next-start (setting (set-of s)) (lent bytes (set-of s)) a ≡ next-is i (e .start) w = rw (ke .same-set) n in
-        let s′ : State =
-        record {
-          set = s .set;
-          next = start-job (a .next) i;
-          cycle = c;
-          running = record { task = i; job = slot (a .next) i; start = e .start };
-          now = record { idle = w; inversions = moved (setting ts) (lent bytes ts) (a .next) (a .offsets) i };
-          first = s .first;
-        } in
-        record {
-          state = s′;
-          answers = ap (started bytes s c a) n′ ∙ rw (ke .same-set, job);
-          at = record {
-            kept = record { slots = ke .slots; same-set = ke .same-set; tasks = ke .tasks; first = ke .first };
-            cycle = refl;
-            running-task = refl;
-            running-job = job;
-            running-start = refl;
-            last-started = slot-start-same (a .next) i;
-            ready = record {
-              turns = K;
-              enough = omega (arith, re .enough);
-              idles = k;
-              rest = rw (ke .same-set) rest;
-              idles-shown = shown;
-              placed = placed;
-              possible-counts = counts-start (hyperperiod ts) ts (a .next) i (re .possible-counts) (keep .left);
-              counts = counts-more (length ts) τ r lt (a .next) (re .counts);
-              next-slots = start-length (a .next) i (omega (arith, keep .a-task, g .good .few-tasks, re .next-slots)) ∙ re .next-slots;
-              offset-slots = put-length (a .offsets) i _ (omega (arith, keep .a-task, g .good .few-tasks, re .offset-slots)) ∙ re .offset-slots;
+    -- replay goes on with the entries that are left
+    pub rest-given : {r : ℕ} {a : Standing (List ℕ)} (re : Ready r a) →
+        replay-from (setting ts) (suc (hyperperiod ts)) (a .next) (a .free) (re .replays .idles-left) (X .inversions) ≡ gives (drop r τ)
+    rest-given {r} re = starts-given r τ _ (sym (re .replays .replayed) ∙ g .whole)
+
+    -- with none left all jobs have started
+    all-have-started : {r : ℕ} {a : Standing (List ℕ)} → Ready r a → length τ ≤ r → all-started (hyperperiod ts) (ts .tasks) (a .next) ≡ true
+    all-have-started {r} {a} re le =
+        replay-end (setting ts) (suc (hyperperiod ts)) (a .next) (a .free) (re .replays .idles-left) (X .inversions)
+        (rest-given re ∙ ap gives (drop-of-length-le τ {i = r} le))
+
+    module _ (c r : ℕ) (a : Standing (List ℕ)) (s : State) (lt : r < length τ) (ke : Kept s) (re : Ready r a) where
+      abbrev e : Entry
+      e = entry-at τ r
+
+      -- the entry that is next is the first of those left
+      first-left : replay-from (setting ts) (suc (hyperperiod ts)) (a .next) (a .free) (re .replays .idles-left) (X .inversions) ≡ gives (e ∷ drop (suc r) τ)
+      first-left = rest-given re ∙ ap gives (drop-cons τ r (record { task = 0; start = 0 }) lt)
+
+      -- so not all jobs have started
+      not-all-started : all-started (hyperperiod ts) (ts .tasks) (a .next) ≡ false
+      not-all-started =
+          replay-left (setting ts) (suc (hyperperiod ts)) (a .next) (a .free) (re .replays .idles-left) (X .inversions) e (drop (suc r) τ) first-left
+
+      -- where it is the next start by offsets, it starts
+      serves-found : (w : ℕ) → next-start (setting ts) (lent bytes ts) a ≡ next-is (e .task) (e .start) w → Serves c r (start-next bytes s c a)
+      serves-found w n =
+          let i : ℕ = e .task in
+          let R = re .replays in
+          let go = replay-starts (g .stand) (g .sound) R not-all-started i (e .start) w n in
+          let one-more : take (suc r) τ ≡ take r τ ++ (e ∷ []) = take-suc τ r (record { task = 0; start = 0 }) lt in
+          let job : slot (a .next) i ≡ job-at τ r = R .started i (go .a-task) ∙ omega (arith, after-counts [] (take r τ) i, slot-empty i) in
+          let n′ : next-start (setting (set-of s)) (lent bytes (set-of s)) a ≡ next-is i (e .start) w = rw (ke .same-set) n in
+          let s′ : State =
+          record {
+            set = s .set;
+            next = start-job (a .next) i;
+            cycle = c;
+            running = record { task = i; job = slot (a .next) i; start = e .start };
+            now = record { idle = w; inversions = moved (setting ts) (lent bytes ts) (a .next) (a .offsets) i };
+            first = s .first;
+          } in
+          record {
+            state = s′;
+            answers = ap (started bytes s c a) n′ ∙ rw (ke .same-set, job);
+            at = record {
+              kept = record { slots = ke .slots; same-set = ke .same-set; tasks = ke .tasks; first = ke .first };
+              cycle = refl;
+              running-task = refl;
+              running-job = job;
+              running-start = refl;
+              last-started = slot-start-same (a .next) i;
+              ready = record {
+                replays = rw (ke .same-set, one-more) (go .goes-on);
+                kept = kept-behind (setting ts) (lent bytes ts) (a .next) (e .start) (re .kept) (a .idle) w;
+                keeps = rw (ke .same-set, one-more) (keeps-starts (g .stand) (g .sound) R (re .keeps) not-all-started i (e .start) w n);
+                next-slots = start-length (a .next) i (omega (arith, go .a-task, g .good .few-tasks, re .next-slots)) ∙ re .next-slots;
+                offset-slots = put-length (a .offsets) i _ (omega (arith, go .a-task, g .good .few-tasks, re .offset-slots)) ∙ re .offset-slots;
+              };
             };
-          };
-        })
+          }
+
+      -- and it is
+      serves-next : Serves c r (start-next bytes s c a)
+      serves-next =
+          let R = re .replays in
+          by-next (next-start (setting ts) (lent bytes ts) a)
+          (λ i t w n.
+          let z = next-replayed (g .stand) (g .sound) R not-all-started i t w n in
+          let later : Judged (List Entry) =
+          replay-from (setting ts) (suc (hyperperiod ts)) (start-job (a .next) i) (t + task ts i .time) (z .idles-left) (X .inversions) in
+          let same : record { task = i; start = t } ≡ e = start-given (record { task = i; start = t }) e later (drop (suc r) τ) (sym (z .goes-on) ∙ first-left) in
+          let its-task : i ≡ e .task = ap (λ (d : Entry). d .task) same in
+          let its-start : t ≡ e .start = ap (λ (d : Entry). d .start) same in
+          serves-found w (n ∙ rw (its-task, its-start)))
+          (λ number n.
+          let other : gives τ ≡ refuses (refusal 18 (length (take r τ))) =
+          sym (g .whole) ∙ replay-stuck (g .stand) (g .sound) R not-all-started number n in
+          clash (cc))
 
     -- at a cycle's start its first entry is next
-    ready-first : (x offsets : List ℕ) → Same (length ts) x [] → Same (length ts) offsets (first-offsets ts X .inversions) →
+    ready-first : (x offsets : List ℕ) → Same (length (ts .tasks)) x [] → Same (length (ts .tasks)) offsets (first-offsets ts X .inversions) →
         length x ≡ limits .tasks → length offsets ≡ limits .tasks → Ready 0 (standing x 0 offsets (first-offsets ts X .idle))
     ready-first x offsets sx so lx lo = record {
-      turns = suc (hyperperiod ts);
-      enough = omega arith;
-      idles = X .idles;
-      rest = replay-same ts (hyperperiod ts) (suc (hyperperiod ts)) x [] 0 (X .idles) (X .inversions) sx ∙ g .whole;
-      idles-shown = g .idles-first;
-      placed = λ i l. rw (so i l, sx i l, slot-empty i) (g .inversions-first i l);
-      possible-counts = counts-zero (hyperperiod ts) ts x sx;
-      counts = λ i l. sx i l ∙ slot-empty i;
+      replays = replay-begins (g .stand) (g .sound) x offsets sx so;
+      kept = head-length ts;
+      keeps = keeps-begin (g .stand) (g .sound) x sx;
       next-slots = lx;
       offset-slots = lo;
     }
 
     -- beginning answers the first entry
-    pub serves-first : 0 < length τ → Serves 0 0 (first-turn bytes ts X)
+    pub serves-first : 0 < length τ → Serves 0 0 (first-turn bytes (record { set = ts; tables = X }))
     serves-first lt =
-        serves-next 0 0 (at-begin (fresh (record { tasks = ts; tables = X }))) (fresh (record { tasks = ts; tables = X })) lt
+        serves-next 0 0 (at-begin (fresh (record { set = ts; tables = X }))) (fresh (record { set = ts; tables = X })) lt
         (record {
           slots = omega (
             arith,
-            length-append ts (replicate (limits .tasks - length ts) zero-task),
-            length-replicate (limits .tasks - length ts) zero-task,
+            length-append (ts .tasks) (replicate (limits .tasks - length (ts .tasks)) zero-task),
+            length-replicate (limits .tasks - length (ts .tasks)) zero-task,
             g .good .few-tasks,
           );
-          same-set = take-at ts (replicate (limits .tasks - length ts) zero-task) (length ts) refl;
+          same-set = memory-keeps ts;
           tasks = refl;
           first = refl;
         })
-        (ready-first zeros (first-offsets ts X .inversions) (λ i l. slot-zeros (limits .tasks) i ∙ sym (slot-empty i)) (λ i l. refl) refl
+        (ready-first zeros (first-offsets ts X .inversions) (zeros-same (length (ts .tasks))) (λ i l. refl) refl
         (first-length ts X (g .good .few-tasks)))
 
     module _ (c r : ℕ) (s : State) (a : At c r s) (an-entry : r < length τ) where
@@ -201,7 +206,7 @@ module _ (bytes : List ℕ) (ts : List Task) (X : Tables) (τ : List Entry) wher
           let few : few-enough (s .set .n) ≡ true = rw (k .tasks) (both-in _ _ (le-leb _ _ (g .good .some-tasks)) (le-leb _ _ (g .good .few-tasks))) in
           let number : ltb (s .running .task) (s .set .n) ≡ true = rw (k .tasks, a .running-task) (lt-ltb _ _ (g .valid .tasks-below-n r an-entry)) in
           rw (k .same-set, few, g .sound)
-          (both-in _ _ (a .ready .possible-counts)
+          (both-in _ _ (a .ready .replays .counts)
           (both-in _ _ number
           (both-in _ _ (eq-eqb _ _ (a .last-started))
           (rw (a .running-task, a .running-job, a .running-start)
@@ -241,7 +246,7 @@ module _ (bytes : List ℕ) (ts : List Task) (X : Tables) (τ : List Entry) wher
       -- within a cycle the next turn starts from the running job's start + C
       within : suc r < length τ → next-turn bytes s ≡ start-next bytes s c (after-running s)
       within lt =
-          let left : all-started (hyperperiod (set-of s)) (set-of s) (s .next) ≡ false = rw (a .kept .same-set) (not-all-started (a .ready) lt) in
+          let left : all-started (hyperperiod (set-of s)) (set-of s .tasks) (s .next) ≡ false = rw (a .kept .same-set) (not-all-started c (suc r) (after-running s) s lt (a .kept) (a .ready)) in
           rw (left, next-turn) (rw (a .cycle))
 
       -- going on answers the next entry of the cycle
@@ -253,7 +258,7 @@ module _ (bytes : List ℕ) (ts : List Task) (X : Tables) (τ : List Entry) wher
       -- after the last entry of a cycle
       module _ (last : suc r ≡ length τ) where
         -- all jobs of the cycle have started
-        done : all-started (hyperperiod (set-of s)) (set-of s) (s .next) ≡ true
+        done : all-started (hyperperiod (set-of s)) (set-of s .tasks) (s .next) ≡ true
         done = rw (a .kept .same-set) (all-have-started (a .ready) (omega arith))
 
         -- the next turn starts from the start of the next cycle

@@ -1,6 +1,7 @@
 -- The order of records: those of a framed image are TS, TK records, the records listed first (SL or ID), PV records and EN. Timetable images and table
 -- images are treated as one; records stand for their lists of values. Assumes nothing.
 use mathlib.Core.Path.{_≡_, refl, sym, _∙_, ap, ap₂, subst, subst₂}
+use mathlib.Core.Logic.{_⊎_, inl, inr}
 use mathlib.Core.Bool.{true}
 use mathlib.Core.List.{List, [], _∷_, _++_}
 use mathlib.Core.Option.{none}
@@ -17,10 +18,10 @@ use Rattle.rules.specs.Tasks.{few-enough, limits}
 use Rattle.rules.specs.Priority.{slot}
 use Rattle.rules.specs.Marks.{Mark, TS, TK, SL, ID, PV, EN, row, size}
 use Rattle.rules.specs.Image.{Record, record-of, records, end-record, Each, countable}
-use Rattle.rules.specs.Framing.{start-place, layout-at, in-kind, may-follow, allowed, head-fault, tasks-due, after-head, after-task, after-listed, after-inversion, goes-on, ends, after}
+use Rattle.rules.specs.Framing.{start-place, layout-at, in-kind, may-follow, allowed, head-fault, least-behind, tasks-due, after-head, after-task, after-later, goes-on, ends, after}
 use Rattle.rules.proofs.Cases.{by-bool, differ, both-true, both-in, first-none, unless-none}
 use Rattle.rules.proofs.Marked.{turn-of, due-turn, later-turn}
-use Rattle.rules.proofs.FramingTurns.{After, past-head, past-task, past-entry, past-idle, past-inversion, past-end, by-after}
+use Rattle.rules.proofs.FramingTurns.{one-listed, one-inversion, After, past-head, past-task, past-later, past-end, by-after}
 use Rattle.rules.proofs.Framed.{Stands, Runs, last, more}
 
 -- the two kinds of image, each with the mark of the records that are listed first after the tasks
@@ -67,29 +68,37 @@ in-later-turn least rank h k = rw (le-ltb least 2 h, may-follow) (le-leb least r
 
 -- the records that framing goes on behind, each with the ranks that it can follow
 data Follows (kind : ℕ) (m : Mark) (s : Place) : Mark → List ℕ → Place → Type 0 where
-  head : {v : List ℕ} → s .rank ≡ 0 → head-fault kind (s .index) v ≡ none → Follows kind m s TS v (after-head s v)
-  task : {v : List ℕ} → s .rank ≡ 1 → Follows kind m s TK v (after-task s)
-  listed : {v : List ℕ} → 2 ≤ s .rank → s .rank ≤ 6 → Follows kind m s m v (after-listed m s)
-  inversion : {v : List ℕ} → 2 ≤ s .rank → in-kind kind (row PV) ≡ true → Follows kind m s PV v (after-inversion s)
+  head : {v : List ℕ} → s .rank ≡ 0 → head-fault kind (s .index) v ≡ none → Follows kind m s TS v (after-head TS s v)
+  task : {v : List ℕ} → s .rank ≡ 1 → Follows kind m s TK v (after-task TK s)
+  listed : {v : List ℕ} → 2 ≤ s .rank → s .rank ≤ 6 → Follows kind m s m v (after-later m s (suc (s .listed)) (s .inversions))
+  inversion : {v : List ℕ} → 2 ≤ s .rank → in-kind kind (row PV) ≡ true → Follows kind m s PV v (after-later PV s (s .listed) (suc (s .inversions)))
+
+-- the records listed first have one rank, and as many may stand as do
+ranked : {kind : ℕ} {m : Mark} → Kind kind m → (row m .rank ≡ 6) × (least-behind (row m) ≡ 6)
+ranked of-timetable = (refl, refl)
+ranked of-tables = (refl, refl)
+
+-- and one mark in each kind
+listed-mark : {kind : ℕ} {m k : Mark} → Kind kind m → (k ≡ SL) ⊎ (k ≡ ID) → in-kind kind (row k) ≡ true → m ≡ k
+listed-mark of-timetable (inl e) i = sym e
+listed-mark of-timetable (inr e) i = differ (sym (rw e at i))
+listed-mark of-tables (inl e) i = differ (sym (rw e at i))
+listed-mark of-tables (inr e) i = sym e
 
 -- framing goes on behind no other records
 follows : {kind : ℕ} {m : Mark} → Kind kind m → {s t : Place} {k : Mark} {v : List ℕ} → After kind s k v (goes-on t) → allowed kind s k ≡ true →
     Follows kind m s k v t
-follows of-timetable {s = s} (past-head h) a = head (due-turn (s .rank) 0 (omega arith) (turn-of 1 s TS a)) h
-follows of-timetable {s = s} past-task a = task (due-turn (s .rank) 1 (omega arith) (turn-of 1 s TK a))
-follows of-timetable {s = s} past-entry a = let l = later-turn (s .rank) 6 (omega arith) (turn-of 1 s SL a) in listed (l .0) (l .1)
-follows of-timetable past-idle a = differ (sym a)
-follows of-timetable past-inversion a = differ (sym a)
-follows of-tables {s = s} (past-head h) a = head (due-turn (s .rank) 0 (omega arith) (turn-of 2 s TS a)) h
-follows of-tables {s = s} past-task a = task (due-turn (s .rank) 1 (omega arith) (turn-of 2 s TK a))
-follows of-tables past-entry a = differ (sym a)
-follows of-tables {s = s} past-idle a = let l = later-turn (s .rank) 6 (omega arith) (turn-of 2 s ID a) in listed (l .0) (l .1)
-follows of-tables {s = s} past-inversion a = inversion (later-turn (s .rank) 7 (omega arith) (turn-of 2 s PV a) .0) refl
-
--- the records listed first have one rank
-ranked : {kind : ℕ} {m : Mark} → Kind kind m → row m .rank ≡ 6
-ranked of-timetable = refl
-ranked of-tables = refl
+follows {kind} K {s = s} (past-head h) a = head (due-turn (s .rank) 0 (omega arith) (turn-of kind s TS a)) h
+follows {kind} K {s = s} past-task a = task (due-turn (s .rank) 1 (omega arith) (turn-of kind s TK a))
+follows {kind} {m} K {s = s} {k = k} {v = v} (past-later l e (one-listed o)) a =
+    let same = listed-mark K o (both-true (in-kind kind (row k)) _ a .0) in
+    let turn = later-turn (s .rank) (row k .rank) l (turn-of kind s k a) in
+    subst (λ (x : Mark). Follows kind m s x v (after-later x s (suc (s .listed)) (s .inversions))) same
+    (listed (turn .0) (omega (arith, turn .1, ranked K .0, ap (λ (x : Mark). row x .rank) same)))
+follows {kind} {m} K {s = s} {k = k} {v = v} (past-later l e (one-inversion o)) a =
+    let turn = later-turn (s .rank) (row k .rank) l (turn-of kind s k a) in
+    subst (λ (x : Mark). Follows kind m s x v (after-later x s (s .listed) (suc (s .inversions)))) (sym o)
+    (inversion (turn .0) (rw o at (both-true (in-kind kind (row k)) _ a .0)))
 
 -- a layout and EN's number, counted from a place on which so many listed records and PV records follow
 record Counted (l : Layout) (number : ℕ) (s : Place) (m : Mark) (a b : ℕ) : Type 0 where
@@ -169,7 +178,7 @@ behind-more {m = m} {v = v} late (inversion b c) f i =
 late-after : {kind : ℕ} {m : Mark} {s t : Place} {k : Mark} {v : List ℕ} → Kind kind m → 2 ≤ s .rank → Follows kind m s k v t → 2 ≤ t .rank
 late-after K late (head c h) = absurd (omega arith)
 late-after K late (task c) = absurd (omega arith)
-late-after K late (listed b c) = omega (arith, ranked K)
+late-after K late (listed b c) = omega (arith, ranked K .1)
 late-after K late (inversion b c) = omega arith
 
 -- what runs behind the tasks are records listed first, PV records and EN
@@ -343,7 +352,8 @@ listed-in of-timetable = refl
 listed-in of-tables = refl
 
 -- and framing goes on behind them
-goes-listed : {kind : ℕ} {m : Mark} → Kind kind m → (s : Place) (v : List ℕ) → after kind s m v ≡ goes-on (after-listed m s)
+goes-listed : {kind : ℕ} {m : Mark} → Kind kind m → (s : Place) (v : List ℕ) →
+    after kind s m v ≡ goes-on (after-later m s (suc (s .listed)) (s .inversions))
 goes-listed of-timetable s v = refl
 goes-listed of-tables s v = refl
 
@@ -353,8 +363,8 @@ module _ {kind : ℕ} {m : Mark} (K : Kind kind m) (l : Layout) (number : ℕ) (
   runs-end s h k c =
       let o : Stands kind s EN (number ∷ []) = record { may = may-stand kind s EN (in-each-kind kind EN refl refl) h k; fits = (fits, tt) } in
       let is-index : number ≡ s .index = omega (arith, c .number-is) in
-      let layout : layout-at s ≡ l =
-      same-layout (layout-at s) l (sym (c .tasks-are)) (omega (arith, c .listed-are)) (omega (arith, c .inversions-are)) (omega (arith, c .ended-at)) in
+      let layout : layout-at EN s ≡ l =
+      same-layout (layout-at EN s) l (sym (c .tasks-are)) (omega (arith, c .listed-are)) (omega (arith, c .inversions-are)) (omega (arith, c .ended-at)) in
       let e : after kind s EN (number ∷ []) ≡ ends (gives l) = rw (eq-eqb number (s .index) is-index) (ap (λ (x : Layout). ends (gives x)) layout) in
       last o e
 
@@ -365,7 +375,7 @@ module _ {kind : ℕ} {m : Mark} (K : Kind kind m) (l : Layout) (number : ℕ) (
   runs-inversions (p ∷ ps) s i f h k c =
       let its-kind = i (omega arith) in
       more (record { may = may-stand kind s PV its-kind h k; fits = f .0 }) refl
-      (runs-inversions ps (after-inversion s) (λ _. its-kind) (f .1) (omega arith) (omega arith) (omega (arith, c)))
+      (runs-inversions ps (after-later PV s (s .listed) (suc (s .inversions))) (λ _. its-kind) (f .1) (omega arith) (omega arith) (omega (arith, c)))
 
   -- and the records listed first before those
   runs-listed : (us ps : List (List ℕ)) (s : Place) → (1 ≤ length ps → in-kind kind (row PV) ≡ true) → Each (row m .widths) us → Each (row PV .widths) ps →
@@ -375,7 +385,7 @@ module _ {kind : ℕ} {m : Mark} (K : Kind kind m) (l : Layout) (number : ℕ) (
   runs-listed (u ∷ us) ps s i f g h k c =
       let r = ranked K in
       more (record { may = may-stand kind s m (listed-in K) h (omega arith); fits = f .0 }) (goes-listed K s u)
-      (runs-listed us ps (after-listed m s) i (f .1) g (omega arith) (omega arith) (omega (arith, c)))
+      (runs-listed us ps (after-later m s (suc (s .listed)) (s .inversions)) i (f .1) g (omega arith) (omega arith) (omega (arith, c)))
 
 -- TK records run where as many are due
 runs-tasks : {kind : ℕ} (vs : List (List ℕ)) (i o n : ℕ) (rest : List Record) (l : Layout) → Each (row TK .widths) vs →

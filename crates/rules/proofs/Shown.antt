@@ -11,8 +11,8 @@ use Rattle.rules.specs.declared.Idle.{Idle}
 use Rattle.rules.specs.declared.Inversion.{Inversion}
 use Rattle.rules.specs.Priority.{slot}
 use Rattle.rules.specs.Irregularities.{at-most}
-use Rattle.rules.specs.Decision.{delay-of}
-use Rattle.rules.specs.Offsets.{no-record, shows, Source, is-of, own-delay, past-own, readable, tasks-readable, put-slot}
+use Rattle.rules.specs.Decision.{delay-of, is-of}
+use Rattle.rules.specs.Offsets.{no-record, shows, Source, own-delay, past-own, readable, tasks-readable, put-slot}
 use Rattle.rules.specs.Dispatcher.{front}
 use Rattle.rules.proofs.Cases.{by-bool, by-option, by-eq, by-pair}
 use Rattle.rules.proofs.Theory.{Pairs}

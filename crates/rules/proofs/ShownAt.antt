@@ -11,17 +11,16 @@ use lib.ListN.{length, drop, replicate, length-append}
 use lib.Seq.{drop-drop}
 use borrow.Author.Tests.{ltb-true, ltb-false, lt-ltb, le-leb}
 use Rattle.fields.specs.Body.{Fit}
-use Rattle.rules.specs.declared.Task.{Task}
 use Rattle.rules.specs.declared.Idle.{Idle}
 use Rattle.rules.specs.declared.Inversion.{Inversion}
-use Rattle.rules.specs.Tasks.{limits, hyperperiod}
+use Rattle.rules.specs.Tasks.{Set, limits, hyperperiod}
 use Rattle.rules.specs.Setting.{Tables}
 use Rattle.rules.specs.Priority.{slot}
 use Rattle.rules.specs.Irregularities.{at-most}
 use Rattle.rules.specs.Judging.{inversion-in-range}
 use Rattle.rules.specs.Marks.{Mark, ID, PV, EN, row, size, values}
-use Rattle.rules.specs.Image.{Record, record-of, written, image, of-idle, of-inversion, records, end-record, Each}
-use Rattle.rules.specs.Offsets.{shows, last-offset, whole-record, record-at, lent, tables-offset, lower-before, inversion-offset, inversion-offsets, first-offsets}
+use Rattle.rules.specs.Image.{Record, record-of, written, image, of-idle, of-inversion, records, end-record, Each, head-length}
+use Rattle.rules.specs.Offsets.{shows, last-offset, whole-record, record-at, lent, lower-before, inversion-offset, inversion-offsets, first-offsets}
 use Rattle.rules.proofs.Cases.{by-bool, by-eq}
 use Rattle.rules.proofs.Theory.{Rising}
 use Rattle.rules.proofs.Pairs.{at-most-lt, at-most-le, at-most-true}
@@ -68,7 +67,7 @@ module _ (bytes : List ℕ) where
     stands-behind : drop (o + size m) bytes ≡ rest
     stands-behind = sym (drop-drop (size m) o bytes) ∙ rw here (behind-written m v rest)
 
-  module _ (ts : List Task) (n : ℕ) where
+  module _ (ts : Set) (n : ℕ) where
     -- PV records up to EN
     shows-inversions : (p : List Inversion) (o : ℕ) → drop o bytes ≡ image (from-inversions n p) → o + (length p * size PV + size EN) ≤ last-offset →
         Each (row PV .widths) (map of-inversion p) → Every (inversion-in-range ts (hyperperiod ts)) p → ShowsInversions (lent bytes ts) o p
@@ -115,31 +114,31 @@ module _ (bytes : List ℕ) where
         (λ b. rw (b, lower-before) (rw (is-not-lower i r (ltb-false (r .task) i b), from, add-zero o) (shows-inversions (r ∷ p) o here ends fit range)))
 
 -- each task's first offset stands in its slot
-pub slot-first : (ts : List Task) (X : Tables) (i many k : ℕ) (rest : List ℕ) → k < many →
+pub slot-first : (ts : Set) (X : Tables) (i many k : ℕ) (rest : List ℕ) → k < many →
     slot (inversion-offsets ts X i many ++ rest) k ≡ inversion-offset ts X (i + k)
 slot-first ts X i zero k rest h = absurd (omega arith)
 slot-first ts X i (suc many) zero rest h = ap (inversion-offset ts X) (omega arith)
 slot-first ts X i (suc many) (suc k) rest h = slot-first ts X (suc i) many k rest (omega arith) ∙ ap (inversion-offset ts X) (omega arith)
 
 -- tables that stand behind the tasks, with records that keep their rules, and that end by the last offset
-pub record Stand (bytes : List ℕ) (ts : List Task) (X : Tables) (n : ℕ) : Type 0 where
-  pub idles-there : drop (tables-offset ts) bytes ≡ image (from-idles n (X .idles) (X .inversions))
-  pub inversions-there : drop (tables-offset ts + length (X .idles) * size ID) bytes ≡ image (from-inversions n (X .inversions))
+pub record Stand (bytes : List ℕ) (ts : Set) (X : Tables) (n : ℕ) : Type 0 where
+  pub idles-there : drop (head-length ts) bytes ≡ image (from-idles n (X .idles) (X .inversions))
+  pub inversions-there : drop (head-length ts + length (X .idles) * size ID) bytes ≡ image (from-inversions n (X .inversions))
   pub idles-fit : Each (row ID .widths) (map of-idle (X .idles))
   pub inversions-fit : Each (row PV .widths) (map of-inversion (X .inversions))
   pub keep-rules : RecordsKeepRules ts (hyperperiod ts) X
-  pub short : tables-offset ts + (length (X .idles) * size ID + (length (X .inversions) * size PV + size EN)) ≤ last-offset
+  pub short : head-length ts + (length (X .idles) * size ID + (length (X .inversions) * size PV + size EN)) ≤ last-offset
 
-module _ {bytes : List ℕ} {ts : List Task} {X : Tables} {n : ℕ} (st : Stand bytes ts X n) where
+module _ {bytes : List ℕ} {ts : Set} {X : Tables} {n : ℕ} (st : Stand bytes ts X n) where
   -- offsets as at a cycle's start show all idle records
   pub first-idles : ShowsIdles (lent bytes ts) (first-offsets ts X .idle) (X .idles)
   first-idles =
-      shows-idles bytes ts n (X .idles) (X .inversions) (tables-offset ts) 0 (st .idles-there) (st .short) (st .idles-fit) (st .inversions-fit)
+      shows-idles bytes ts n (X .idles) (X .inversions) (head-length ts) 0 (st .idles-there) (st .short) (st .idles-fit) (st .inversions-fit)
       (st .keep-rules .rising) (st .keep-rules .in-range)
 
   -- and for each task its inversion records
-  pub first-inversions : (i : ℕ) → i < length ts → ShowsInversions (lent bytes ts) (slot (first-offsets ts X .inversions) i) (from i 0 (X .inversions))
+  pub first-inversions : (i : ℕ) → i < length (ts .tasks) → ShowsInversions (lent bytes ts) (slot (first-offsets ts X .inversions) i) (from i 0 (X .inversions))
   first-inversions i l =
-      rw (slot-first ts X 0 (length ts) i (replicate (limits .tasks - length ts) 0) l, zero-add i)
-      (shows-from bytes ts n i (X .inversions) (tables-offset ts + length (X .idles) * size ID) (st .inversions-there) (omega (arith, st .short))
+      rw (slot-first ts X 0 (length (ts .tasks)) i (replicate (limits .tasks - length (ts .tasks)) 0) l, zero-add i)
+      (shows-from bytes ts n i (X .inversions) (head-length ts + length (X .idles) * size ID) (st .inversions-there) (omega (arith, st .short))
       (st .inversions-fit) (st .keep-rules .in-range))

@@ -2,7 +2,6 @@
 use mathlib.Core.Path.{_≡_, refl, sym, _∙_, ap}
 use mathlib.Core.Bool.{true}
 use mathlib.Core.List.{List, [], _∷_}
-use mathlib.Core.Option.{Option}
 use Prim.Native.Nat.{ℕ, zero, suc, _<_}
 use native.Mathlib.Omega.{arith}
 use lib.Dec.{ltb, leb}
@@ -10,16 +9,13 @@ use lib.ListN.{length}
 use borrow.Author.Tests.{ltb-true, le-leb}
 use Rattle.fields.specs.Body.{head₀, tail₀}
 use Rattle.rules.specs.declared.Task.{Task}
-use Rattle.rules.specs.declared.Idle.{Idle}
-use Rattle.rules.specs.declared.Inversion.{Inversion}
-use Rattle.rules.specs.Tasks.{task, jobs}
-use Rattle.rules.specs.Setting.{Setting, instant}
-use Rattle.rules.specs.Priority.{slot, start-job, all-started, least-release, waiting, entry-breaks, run-lowest, by-priority, setting-of}
-use Rattle.rules.specs.Decision.{Choice, idle-for, start-task, wait-till, first-idle, later-idles, start-before, decide, comes-to, step, delays, replay-from}
+use Rattle.rules.specs.Tasks.{task-in, Set, task, jobs}
+use Rattle.rules.specs.Priority.{slot, start-job, all-started, least-release, waiting, run-lowest, by-priority, setting-of}
 use Rattle.rules.specs.Dispatcher.{counts-possible}
-use Rattle.rules.proofs.Cases.{by-bool, by-eq, by-step, both-true, both-in}
+use Rattle.rules.proofs.Cases.{by-bool, by-eq, both-true, both-in}
 use Rattle.rules.proofs.PriorityLaws.{slot-start-same, slot-start-other}
-use Rattle.rules.proofs.Starts.{lowest-from-same, decide-same}
+use Rattle.rules.proofs.Starts.{lowest-from-same}
+use Rattle.rules.proofs.NextJobs.{ByNextJobs}
 
 -- the same numbers in the first n slots
 abbrev pub Same : ℕ → List ℕ → List ℕ → Type 0
@@ -33,7 +29,7 @@ all-started-same h (t ∷ ts) x y s =
     by-bool (ltb (head₀ y) (jobs h t)) (λ b. rw (a, b, all-started))
     (λ b. rw (a, b, all-started) (all-started-same h ts (tail₀ x) (tail₀ y) (λ i l. s (suc i) (omega arith))))
 
--- and so do the least release
+-- and so does the least release
 pub least-release-same : (h : ℕ) (ts : List Task) (x y : List ℕ) → Same (length ts) x y → least-release h ts x ≡ least-release h ts y
 least-release-same h [] x y s = refl
 least-release-same h (t ∷ ts) x y s =
@@ -47,47 +43,21 @@ start-same n x y j s i l =
     by-eq i j (λ u. rw (u, slot-start-same x j, slot-start-same y j) (ap suc (s j (omega arith))))
     (λ u. slot-start-other x j i u ∙ s i l ∙ sym (slot-start-other y j i u))
 
-module _ (ts : List Task) (h : ℕ) where
-  abbrev G : Setting
-  G = setting-of ts h
-
-  -- the rules that a start breaks
-  pub breaks-same : (x y : List ℕ) (f i t : ℕ) → Same (length ts) x y → entry-breaks ts h x f i t ≡ entry-breaks ts h y f i t
-  breaks-same x y f i t s = by-bool (ltb i (length ts)) (λ b. rw (s i (ltb-true i (length ts) b))) (λ b. rw b)
-
-  -- the task that priority runs
-  pub priority-same : (x y : List ℕ) (t : ℕ) → Same (length ts) x y → by-priority ts h x t ≡ by-priority ts h y t
+module _ (ts : Set) (h : ℕ) where
+  -- the lowest waiting task
+  priority-same : (x y : List ℕ) (t : ℕ) → Same (length (ts .tasks)) x y → by-priority ts h x t ≡ by-priority ts h y t
   priority-same x y t s =
-      ap (run-lowest (length ts)) (lowest-from-same (length ts) 0 (waiting ts h x t) (waiting ts h y t) (λ j l. rw (s j (omega arith))))
+      ap (run-lowest (length (ts .tasks))) (lowest-from-same (length (ts .tasks)) 0 (waiting ts h x t) (waiting ts h y t) (λ j l. rw (s j (omega arith))))
 
-  -- and what one turn comes to, with the same idle record and the same delays
-  pub step-same : (x y : List ℕ) (f : ℕ) (idle d e : ℕ → Option ℕ) → Same (length ts) x y → ((i : ℕ) → i < length ts → d i ≡ e i) →
-      step G x f idle d ≡ step G y f idle e
-  step-same x y f idle d e s delays =
-      let t : ℕ = instant G y f in
-      rw (least-release-same h ts x y s)
-      (ap (comes-to G x t) (decide-same G x y t (idle t) d e (priority-same x y t s) (λ i l. rw (s i l, delays i l)))
-      ∙ comes-same t (decide G y t (idle t) e))
-    where
-      comes-same : (t : ℕ) (c : Choice) → comes-to G x t c ≡ comes-to G y t c
-      comes-same t (idle-for l) = refl
-      comes-same t (start-task i) = rw (breaks-same x y t i t s, comes-to)
-      comes-same t (wait-till r) = refl
-
-  -- replay depends only on the slots of the set's tasks
-  pub replay-same : (N : ℕ) (x y : List ℕ) (f : ℕ) (idles : List Idle) (p : List Inversion) → Same (length ts) x y →
-      replay-from G N x f idles p ≡ replay-from G N y f idles p
-  replay-same zero x y f idles p s = refl
-  replay-same (suc N) x y f idles p s =
-      let all = all-started-same h ts x y s in
-      let turn = step-same x y f (first-idle idles) (delays G p x) (delays G p y) s (λ i l. rw (s i l)) in
-      by-bool (all-started h ts y) (λ o. rw (all, o, replay-from))
-      (λ o. by-step (step G y f (first-idle idles) (delays G p y))
-      (λ r e. rw (all ∙ o, o, turn ∙ e, e, replay-from) (replay-same N x y r (later-idles idles) p s))
-      (λ i t e. rw (all ∙ o, o, turn ∙ e, e, replay-from)
-      (ap (start-before (record { task = i; start = t }))
-      (replay-same N (start-job x i) (start-job y i) (G .free-after i t) idles p (start-same (length ts) x y i s))))
-      (λ r e. rw (all ∙ o, o, turn ∙ e, e, replay-from) (replay-same N x y r idles p s)) (λ number e. rw (all ∙ o, o, turn ∙ e, e, replay-from)))
+  -- document 01's setting goes by next jobs
+  pub by-slots : ByNextJobs (setting-of ts h)
+  by-slots = record {
+    all-started-same = all-started-same h (ts .tasks);
+    least-release-same = least-release-same h (ts .tasks);
+    start-same = start-same (length (ts .tasks));
+    breaks-same = λ x y f i t s. by-bool (ltb i (length (ts .tasks))) (λ b. rw (s i (ltb-true i (length (ts .tasks)) b))) (λ b. rw b);
+    baseline-same = priority-same;
+  }
 
 -- at a cycle's start next job numbers are possible
 pub counts-zero : (h : ℕ) (ts : List Task) (x : List ℕ) → Same (length ts) x [] → counts-possible h ts x ≡ true
@@ -97,7 +67,7 @@ counts-zero h (t ∷ ts) x s =
     rw (le-leb (head₀ x) (jobs h t) (omega arith)) (counts-zero h ts (tail₀ x) (λ i l. s (suc i) (omega arith)))
 
 -- and stay so when a job that is left starts
-pub counts-start : (h : ℕ) (ts : List Task) (x : List ℕ) (i : ℕ) → counts-possible h ts x ≡ true → slot x i < jobs h (task ts i) →
+pub counts-start : (h : ℕ) (ts : List Task) (x : List ℕ) (i : ℕ) → counts-possible h ts x ≡ true → slot x i < jobs h (task-in ts i) →
     counts-possible h ts (start-job x i) ≡ true
 counts-start h [] x i c l = refl
 counts-start h (t ∷ ts) x zero c l = both-in _ _ (le-leb (suc (head₀ x)) (jobs h t) l) (both-true (leb (head₀ x) (jobs h t)) _ c .1)

@@ -13,7 +13,7 @@ use Rattle.rules.specs.declared.Start.{Start as StartOf}
 use Rattle.rules.specs.declared.StartAnswer.the-variants.{Start}
 use Rattle.rules.specs.declared.Dispatcher.{Dispatcher as State}
 use Rattle.rules.specs.declared.Turn.{Turn}
-use Rattle.rules.specs.Tasks.{both, limits, task, jobs, hyperperiod, memory-fault}
+use Rattle.rules.specs.Tasks.{Set, both, limits, task, jobs, hyperperiod, memory-fault, memory-set}
 use Rattle.rules.specs.Setting.{Setting, Tables}
 use Rattle.rules.specs.Priority.{slot, all-started, setting-of, setting}
 use Rattle.rules.specs.Offsets.{Source, lent, idle-now, readable, tasks-readable, Standing, NextStart, all-readable, shown-delays, shown-step, idled, waited, next-start-in, next-start, moved, inversion-offsets, first-offsets}
@@ -28,7 +28,8 @@ use Rattle.rules.proofs.NextTurns.{next-keeps-rules}
 use Rattle.rules.proofs.StuckStarts.{by-next}
 use Rattle.rules.proofs.PossibleStates.{is-possible}
 use Rattle.rules.proofs.Shown.{slot-put-same, slot-put-other, slot-front}
-use Rattle.rules.proofs.Slots.{Same, all-started-same, start-same, step-same}
+use Rattle.rules.proofs.NextJobs.{step-same}
+use Rattle.rules.proofs.Slots.{Same, all-started-same, start-same, by-slots}
 
 -- whether tasks' offsets can be read depends only on the slots of the set's tasks
 readable-same : (S : Source) (n : ℕ) (p q : List ℕ) → Same n p q → tasks-readable S n p ≡ tasks-readable S n q
@@ -51,19 +52,19 @@ record SameStanding (n : ℕ) (a b : Standing (List ℕ)) : Type 0 where
   offsets : Same n (a .offsets) (b .offsets)
   idle : a .idle ≡ b .idle
 
-module _ (ts : List Task) (h : ℕ) (S : Source) where
+module _ (ts : Set) (h : ℕ) (S : Source) where
   abbrev G : Setting
   G = setting-of ts h
 
   -- so does the search for the next start
-  next-same : (turns : ℕ) (a b : Standing (List ℕ)) → SameStanding (length ts) a b → next-start-in G S turns a ≡ next-start-in G S turns b
+  next-same : (turns : ℕ) (a b : Standing (List ℕ)) → SameStanding (length (ts .tasks)) a b → next-start-in G S turns a ≡ next-start-in G S turns b
   next-same zero a b s = refl
   next-same (suc turns) a b s =
       let all : all-readable G S (a .offsets) (a .idle) ≡ all-readable G S (b .offsets) (b .idle) =
-      ap₂ (λ (o : ℕ) (r : Bool). both (readable (S .idle-shown o)) r) (s .idle) (readable-same S (length ts) (a .offsets) (b .offsets) (s .offsets)) in
+      ap₂ (λ (o : ℕ) (r : Bool). both (readable (S .idle-shown o)) r) (s .idle) (readable-same S (length (ts .tasks)) (a .offsets) (b .offsets) (s .offsets)) in
       let turn : shown-step G S a ≡ shown-step G S b =
       rw (s .free, s .idle)
-      (step-same ts h (a .next) (b .next) (b .free) (idle-now (S .idle-shown (b .idle))) (shown-delays G S (a .next) (a .offsets))
+      (step-same G (by-slots ts h) (a .next) (b .next) (b .free) (idle-now (S .idle-shown (b .idle))) (shown-delays G S (a .next) (a .offsets))
       (shown-delays G S (b .next) (b .offsets)) (s .next) (λ i l. rw (s .next i l, s .offsets i l))) in
       by-bool (all-readable G S (b .offsets) (b .idle))
       (λ r. by-step (shown-step G S b)
@@ -95,7 +96,8 @@ front-same : (n m : ℕ) (a b x y : List ℕ) → n ≡ m → Same n a b → Sam
 front-same n m a b x y e s i l = slot-front n a x i l ∙ s i l ∙ sym (slot-front m b y i (omega arith))
 
 -- the set of a state has at most n tasks
-few-in-set : (s : State) → length (set-of s) ≤ s .set .n
+few-in-set : (s : State) → length (set-of s .tasks) ≤ s .set .n
+unfolding memory-set
 few-in-set s = simp length-take (omega arith)
 
 -- turns that answer alike, with states that differ at most in the slots from n up
@@ -119,14 +121,14 @@ same-itself s = record {
 
 module _ (bytes : List ℕ) (s s′ : State) (b : SameBelow s s′) where
   -- a number of slots that the set's tasks have
-  in-set : (x y : List ℕ) → Same (s .set .n) x y → Same (length (set-of s)) x y
+  in-set : (x y : List ℕ) → Same (s .set .n) x y → Same (length (set-of s .tasks)) x y
   in-set x y e i l = e i (omega (arith, few-in-set s))
 
   -- looking for the next start from places that hold the same
   start-alike : (c c′ : ℕ) (a a′ : Standing (List ℕ)) → c ≡ c′ → SameStanding (s .set .n) a a′ → Alike (start-next bytes s c a) (start-next bytes s′ c′ a′)
   start-alike c c′ a a′ sc sa =
-      let ts : List Task = set-of s in
-      let in-first : SameStanding (length ts) a a′ =
+      let ts : Set = set-of s in
+      let in-first : SameStanding (length (ts .tasks)) a a′ =
       record { next = in-set (a .next) (a′ .next) (sa .next); free = sa .free; offsets = in-set (a .offsets) (a′ .offsets) (sa .offsets); idle = sa .idle } in
       let e : next-start (setting (set-of s′)) (lent bytes (set-of s′)) a′ ≡ next-start (setting ts) (lent bytes ts) a =
       rw (← b .set) (sym (next-same ts (hyperperiod ts) (lent bytes ts) (suc (hyperperiod ts)) a a′ in-first)) in
@@ -154,10 +156,10 @@ module _ (bytes : List ℕ) (s s′ : State) (b : SameBelow s s′) where
   -- the next turn
   turn-alike : Alike (next-turn bytes s) (next-turn bytes s′)
   turn-alike =
-      let ts : List Task = set-of s in
-      let all : all-started (hyperperiod (set-of s′)) (set-of s′) (s′ .next) ≡ all-started (hyperperiod ts) ts (s .next) =
-      rw (← b .set) (sym (all-started-same (hyperperiod ts) ts (s .next) (s′ .next) (in-set (s .next) (s′ .next) (b .next)))) in
-      by-bool (all-started (hyperperiod ts) ts (s .next))
+      let ts : Set = set-of s in
+      let all : all-started (hyperperiod (set-of s′)) (set-of s′ .tasks) (s′ .next) ≡ all-started (hyperperiod ts) (ts .tasks) (s .next) =
+      rw (← b .set) (sym (all-started-same (hyperperiod ts) (ts .tasks) (s .next) (s′ .next) (in-set (s .next) (s′ .next) (b .next)))) in
+      by-bool (all-started (hyperperiod ts) (ts .tasks) (s .next))
       (λ a. let a′ = all ∙ a in
       by-bool (ltb (s .cycle) last-cycle)
       (λ c. let c′ : ltb (s′ .cycle) last-cycle ≡ true = rw (← b .cycle) c in
@@ -183,8 +185,8 @@ module _ (bytes : List ℕ) (s s′ : State) (b : SameBelow s s′) where
 
   possible-same : possible s ≡ possible s′
   possible-same =
-      let counts : counts-possible (hyperperiod (set-of s)) (set-of s) (s .next) ≡ counts-possible (hyperperiod (set-of s′)) (set-of s′) (s′ .next) =
-      rw (← b .set) (counts-same (hyperperiod (set-of s)) (set-of s) (s .next) (s′ .next) (in-set (s .next) (s′ .next) (b .next))) in
+      let counts : counts-possible (hyperperiod (set-of s)) (set-of s .tasks) (s .next) ≡ counts-possible (hyperperiod (set-of s′)) (set-of s′ .tasks) (s′ .next) =
+      rw (← b .set) (counts-same (hyperperiod (set-of s)) (set-of s .tasks) (s .next) (s′ .next) (in-set (s .next) (s′ .next) (b .next))) in
       let sets : is-none (memory-fault (s .set)) ≡ is-none (memory-fault (s′ .set)) = rw (← b .set, ← b .n) in
       ap₂ both sets (ap₂ both counts running-same)
 
@@ -220,7 +222,7 @@ module _ (bytes : List ℕ) (s : State) where
   start-hands-on : (c : ℕ) (a : Standing (List ℕ)) → ((j : ℕ) → s .set .n ≤ j → slot (a .next) j ≡ slot (s .next) j) →
       ((j : ℕ) → s .set .n ≤ j → slot (a .offsets) j ≡ slot (s .now .inversions) j) → HandsOn s (start-next bytes s c a)
   start-hands-on c a ex eo =
-      let ts : List Task = set-of s in
+      let ts : Set = set-of s in
       by-next (next-start (setting ts) (lent bytes ts) a)
       (λ i t w n.
       let l : i < s .set .n = omega (arith, few-in-set s, next-keeps-rules bytes ts a i t w n .a-task) in
@@ -235,7 +237,7 @@ module _ (bytes : List ℕ) (s : State) where
   -- the next turn
   turn-hands-on : HandsOn s (next-turn bytes s)
   turn-hands-on =
-      by-bool (all-started (hyperperiod (set-of s)) (set-of s) (s .next))
+      by-bool (all-started (hyperperiod (set-of s)) (set-of s .tasks) (s .next))
       (λ a. by-bool (ltb (s .cycle) last-cycle)
       (λ b. rw (a, b, next-turn)
       (start-hands-on (suc (s .cycle)) (at-cycle-start s) (slot-behind (s .set .n) [] (s .next))
@@ -283,20 +285,20 @@ tasks-behind (t ∷ ts) m zero l = absurd (omega arith)
 tasks-behind (t ∷ ts) m (suc j) l = tasks-behind ts m j (omega arith)
 
 -- and behind the tasks' first offsets stands 0
-offsets-behind : (ts : List Task) (X : Tables) (i many m j : ℕ) → many ≤ j → slot (inversion-offsets ts X i many ++ replicate m 0) j ≡ 0
+offsets-behind : (ts : Set) (X : Tables) (i many m j : ℕ) → many ≤ j → slot (inversion-offsets ts X i many ++ replicate m 0) j ≡ 0
 offsets-behind ts X i zero m j l = slot-zeros m j
 offsets-behind ts X i (suc many) m zero l = absurd (omega arith)
 offsets-behind ts X i (suc many) m (suc j) l = offsets-behind ts X (suc i) many m j (omega arith)
 
 -- the state from which the first start is made holds 0 there, as the stopped state does
-fresh-above : (i : Tabled) → SameAbove (length (i .tasks)) (fresh i) stopped
+fresh-above : (i : Tabled) → SameAbove (length (i .set .tasks)) (fresh i) stopped
 fresh-above i =
-    let ts : List Task = i .tasks in
-    let m : ℕ = limits .tasks - length ts in
-    let offsets : (j : ℕ) → length ts ≤ j → slot (first-offsets ts (i .tables) .inversions) j ≡ slot zeros j =
-    λ j l. offsets-behind ts (i .tables) 0 (length ts) m j l ∙ sym (slot-zeros (limits .tasks) j) in
+    let ts : Set = i .set in
+    let m : ℕ = limits .tasks - length (ts .tasks) in
+    let offsets : (j : ℕ) → length (ts .tasks) ≤ j → slot (first-offsets ts (i .tables) .inversions) j ≡ slot zeros j =
+    λ j l. offsets-behind ts (i .tables) 0 (length (ts .tasks)) m j l ∙ sym (slot-zeros (limits .tasks) j) in
     record {
-      tasks = λ j l. tasks-behind ts m j l ∙ sym (zero-tasks (limits .tasks) j);
+      tasks = λ j l. tasks-behind (ts .tasks) m j l ∙ sym (zero-tasks (limits .tasks) j);
       next = λ j l. refl;
       now = offsets;
       first = offsets;
@@ -327,5 +329,5 @@ module _ (bytes : List ℕ) where
   unfolding begin
   begins-zero =
       by-judged (read-tables bytes)
-      (λ i r. by-judged (judge-tables (i .tasks) (i .tables)) (λ τ e. rw (r, e) (first-above i)) (λ f e. rw (r, e) stopped-above))
+      (λ i r. by-judged (judge-tables (i .set) (i .tables)) (λ τ e. rw (r, e) (first-above i)) (λ f e. rw (r, e) stopped-above))
       (λ f r. rw r stopped-above)

@@ -1,22 +1,20 @@
--- The next start by offsets is the next start of the tables that the offsets show. Assumes nothing.
+-- A decision by offsets is the decision of the tables that the offsets show, and a start keeps the offsets so. Assumes nothing.
 use mathlib.Core.Path.{_≡_, refl, _∙_, ap}
 use mathlib.Core.Bool.{Bool, true, false}
 use mathlib.Core.List.{List, _∷_}
 use mathlib.Core.Option.{Option, none, some}
-use Prim.Native.Nat.{ℕ, zero, suc, _+_, _≤_, _<_}
+use Prim.Native.Nat.{ℕ, zero, suc, _+_, _<_}
 use native.Mathlib.Omega.{arith}
 use Rattle.rules.specs.declared.Entry.{Entry}
 use Rattle.rules.specs.declared.Idle.{Idle}
 use Rattle.rules.specs.declared.Inversion.{Inversion}
-use Rattle.rules.specs.Refusals.{gives}
 use Rattle.rules.specs.Setting.{Setting, lowest-from, lowest, instant}
 use Rattle.rules.specs.Priority.{slot}
-use Rattle.rules.specs.Decision.{first-idle, later-idles, falls-at, start-or-baseline, recorded, decide, comes-to, step, delays, replay-from}
-use Rattle.rules.specs.Offsets.{Source, past-own, idle-now, past-idle, Standing, standing, next-is, all-readable, shown-delays, shown-step, next-start-in, next-start, moved}
-use Rattle.rules.proofs.Cases.{by-bool, by-eq, both-in, clash}
+use Rattle.rules.specs.Decision.{first-idle, later-idles, falls-at, start-or-baseline, recorded, decide, comes-to, step, delays}
+use Rattle.rules.specs.Offsets.{Source, past-own, idle-now, past-idle, standing, all-readable, shown-delays, shown-step, moved}
+use Rattle.rules.proofs.Cases.{by-bool, by-eq, both-in}
 use Rattle.rules.proofs.Theory.{Laws, ValidFrom, entry, Pairs}
 use Rattle.rules.proofs.RoundTrip.{decided-by}
-use Rattle.rules.proofs.Replayed.{by-replay, yields}
 use Rattle.rules.proofs.Shown.{ShowsIdles, no-idle, an-idle, ShowsInversions, from, idles-readable, shown-readable, own-as-table, past-as-table, slot-put-same, slot-put-other}
 
 -- tests that agree on the numbers in question have the same lowest that passes
@@ -69,7 +67,7 @@ module _ (G : Setting) (S : Source) (p : List Inversion) where
         (own-as-table S i (G .next-job x i) 0 0 p z (slot offsets i) (placed i l))))
 
     -- and so is what one turn comes to
-    step-as-table : (f o : ℕ) (idles : List Idle) → ShowsIdles S o idles →
+    pub step-as-table : (f o : ℕ) (idles : List Idle) → ShowsIdles S o idles →
         shown-step G S (standing x f offsets o) ≡ step G x f (first-idle idles) (delays G p x)
     step-as-table f o idles s = ap (comes-to G x (instant G x f)) (decided-as-table (instant G x f) o idles s)
 
@@ -77,25 +75,6 @@ module _ (G : Setting) (S : Source) (p : List Inversion) where
     pub readable-at : (o : ℕ) (idles : List Idle) → ShowsIdles S o idles → all-readable G S offsets o ≡ true
     readable-at o idles s =
         both-in _ _ (idles-readable s) (shown-readable S (G .tasks) offsets (λ i. from i (G .next-job x i) p) placed)
-
-    -- the first start of replay is the next start by offsets that show the tables, and the ID offset then shows the idle records left
-    follows : {A : Type 0} (N K f o : ℕ) (idles : List Idle) (e : Entry) (σ : List Entry) → N ≤ K → ShowsIdles S o idles →
-        replay-from G N x f idles p ≡ gives (e ∷ σ) →
-        ((M w : ℕ) (k : List Idle) → M < N → next-start-in G S K (standing x f offsets o) ≡ next-is (e .task) (e .start) w → ShowsIdles S w k →
-        replay-from G M (G .start-job x (e .task)) (G .free-after (e .task) (e .start)) k p ≡ gives σ → A) → A
-    follows zero K f o idles e σ le s h go = clash (cc)
-    follows (suc N) zero f o idles e σ le s h go = absurd (omega arith)
-    follows (suc N) (suc K) f o idles e σ le s h go =
-        let c = step-as-table f o idles s in
-        let r = readable-at o idles s in
-        by-replay G N x f idles p (e ∷ σ) h (λ all q. clash (cc))
-        (λ u left d g. follows N K u (past-idle (S .idle-shown o) o) (later-idles idles) e σ (omega arith) (past-idle-shown s) g
-        (λ M w k m n y z. go M w k (omega arith) (rw (r, c ∙ d, next-start-in) n) y z))
-        (λ i t σ′ left d q g.
-        let same : e ≡ record { task = i; start = t } = cc in
-        let rest : σ ≡ σ′ = cc in
-        rw (same, rest) at go N o idles (omega arith) (rw (r, c ∙ d, next-start-in)) s g)
-        (λ u left d g. follows N K u o idles e σ (omega arith) s g (λ M w k m n y z. go M w k (omega arith) (rw (r, c ∙ d, next-start-in) n) y z))
 
   module _ (L : Laws G) (z : Pairs 0 0 p) where
     -- after a start each task's offset shows its records from its next job on again
@@ -107,15 +86,3 @@ module _ (G : Setting) (S : Source) (p : List Inversion) where
         (λ u. rw (u, slot-put-same offsets i v, L .next-moves x f i s e)
         (past-as-table S i (G .next-job x i) 0 0 p z (slot offsets i) (placed i (L .a-task x f i s e))))
         (λ u. rw (slot-put-other offsets i j v u, L .others-stay x i j u) (placed j l))
-
-    -- the first start of a replay that gives a timetable, by offsets
-    pub first-start : {A : Type 0} (N : ℕ) (a : Standing (G .Started)) (idles : List Idle) (e : Entry) (σ : List Entry) → N ≤ suc (G .latest) →
-        replay-from G N (a .next) (a .free) idles p ≡ gives (e ∷ σ) → Placed (a .next) (a .offsets) → ShowsIdles S (a .idle) idles →
-        ((M w : ℕ) (k : List Idle) → M < N → G .breaks (a .next) (a .free) (e .task) (e .start) ≡ 0 →
-        next-start G S a ≡ next-is (e .task) (e .start) w → ShowsIdles S w k →
-        replay-from G M (G .start-job (a .next) (e .task)) (G .free-after (e .task) (e .start)) k p ≡ gives σ →
-        Placed (G .start-job (a .next) (e .task)) (moved G S (a .next) (a .offsets) (e .task)) → A) → A
-    first-start N a idles e σ le h placed s go =
-        let b : G .breaks (a .next) (a .free) (e .task) (e .start) ≡ 0 = valid-first (yields G L N (a .next) (a .free) idles p (e ∷ σ) h) in
-        follows z (a .next) (a .offsets) placed N (suc (G .latest)) (a .free) (a .idle) idles e σ le s h
-        (λ M w k m n y g. go M w k m b n y g (placed-moved (a .next) (a .offsets) (a .free) (e .task) (e .start) b placed))

@@ -5,7 +5,7 @@ use mathlib.Core.Option.{Option, none, some}
 use Prim.Native.Nat.{ℕ, suc, _+_, _≤_, _<_}
 use native.Mathlib.Omega.{arith}
 use lib.Dec.{ltb}
-use borrow.Author.Tests.{ltb-true, lt-ltb}
+use borrow.Author.Tests.{ltb-true, lt-ltb, le-ltb}
 use Rattle.rules.specs.Setting.{Setting, Act, run, wait, lowest, instant}
 use Rattle.rules.specs.Decision.{idle-for, start-task, wait-till, idles-till, starts, waits-till, stops, as-baseline, recorded, start-or-baseline, decide, comes-to, step}
 use Rattle.rules.proofs.Cases.{by-bool, by-nat, by-choice, clash}
@@ -48,6 +48,10 @@ module _ (G : Setting) (x : G .Started) (f t : ℕ) (idle delay : ℕ → Option
   -- it waits as the baseline does
   pub step-waits : (r : ℕ) → decide G x t (idle t) delay ≡ wait-till r → r < G .cycle-end → step G x f idle delay ≡ waits-till r
   step-waits r d h = rw now (rw (d, lt-ltb r (G .cycle-end) h, comes-to))
+
+  -- it would wait past the end of the cycle
+  pub step-past : (r : ℕ) → decide G x t (idle t) delay ≡ wait-till r → G .cycle-end ≤ r → step G x f idle delay ≡ stops 18
+  step-past r d h = rw now (rw (d, le-ltb r (G .cycle-end) h, comes-to))
 
   -- it starts a job
   pub step-starts : (i : ℕ) → decide G x t (idle t) delay ≡ start-task i → G .breaks-in-replay x t i t ≡ 0 → step G x f idle delay ≡ starts i t

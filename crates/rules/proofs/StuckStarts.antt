@@ -6,16 +6,15 @@ use Prim.Native.Nat.{ℕ, zero, suc, _+_, _≤_, _<_}
 use native.Mathlib.Omega.{arith}
 use lib.ListN.{length}
 use Rattle.fields.specs.Body.{head₀, tail₀}
-use Rattle.rules.specs.declared.Task.{Task}
 use Rattle.rules.specs.declared.Idle.{Idle}
-use Rattle.rules.specs.Tasks.{task, due, hyperperiod, KeepsItsRule}
+use Rattle.rules.specs.Tasks.{Set, task, due, hyperperiod, KeepsItsRule}
 use Rattle.rules.specs.Setting.{Setting, instant}
 use Rattle.rules.specs.Priority.{slot, all-started, late, entry-breaks, setting}
-use Rattle.rules.specs.Decision.{Choice, idle-for, start-task}
+use Rattle.rules.specs.Decision.{Choice, idle-for, start-task, wait-till}
 use Rattle.rules.specs.Offsets.{Shown, unreadable, no-record, shows, Source, lent, idle-now, past-idle, readable, tasks-readable, Standing, all-readable, shown-delays, NextStart, next-is, stuck, next-start}
 use Rattle.rules.specs.GoingOn.{Unreadable, at-idle, at-task, DecidesFrom, StuckAt, unreadable-record, late-job, after-idle}
 use Rattle.rules.proofs.Cases.{by-bool, by-le, clash, differ}
-use Rattle.rules.proofs.Decided.{started-waits, instant-next, next-instant, offsets-decide}
+use Rattle.rules.proofs.Decided.{started-waits, rule-never-waits, instant-next, next-instant, offsets-decide}
 use Rattle.rules.proofs.PriorityLaws.{breaks-none}
 use Rattle.rules.proofs.LateJobs.{waits-keeps, ends-late}
 use Rattle.rules.proofs.Steps.{decide-idles}
@@ -49,7 +48,7 @@ some-unreadable S (suc n) offsets e =
     (λ b. let w = some-unreadable S n (tail₀ offsets) (rw b at e) in (suc (w .0), omega (arith, w .1), w .2))
     (λ b. (0, omega arith, not-readable (S .inversion-shown (head₀ offsets)) b))
 
-module _ (bytes : List ℕ) (ts : List Task) (a : Standing (List ℕ)) where
+module _ (bytes : List ℕ) (ts : Set) (a : Standing (List ℕ)) where
   -- the test of all current offsets
   abbrev all-read : Type 0
   all-read = all-readable (setting ts) (lent bytes ts) (a .offsets) (a .idle) ≡ true
@@ -61,19 +60,19 @@ module _ (bytes : List ℕ) (ts : List Task) (a : Standing (List ℕ)) where
   unread : not-read → Unreadable ts (hyperperiod ts) (lent bytes ts) a
   unread e =
       by-bool (readable (lent bytes ts .idle-shown (a .idle)))
-      (λ b. let w = some-unreadable (lent bytes ts) (length ts) (a .offsets) (rw b at e) in at-task (w .1) (w .2))
+      (λ b. let w = some-unreadable (lent bytes ts) (length (ts .tasks)) (a .offsets) (rw b at e) in at-task (w .1) (w .2))
       (λ b. at-idle (not-readable (lent bytes ts .idle-shown (a .idle)) b))
 
   unread-so : Unreadable ts (hyperperiod ts) (lent bytes ts) a → not-read
   unread-so (at-idle e) = rw e
   unread-so (at-task {i = i} l e) =
-      let tasks : tasks-readable (lent bytes ts) (length ts) (a .offsets) ≡ false = one-unreadable (lent bytes ts) (length ts) (a .offsets) i l (rw e) in
+      let tasks : tasks-readable (lent bytes ts) (length (ts .tasks)) (a .offsets) ≡ false = one-unreadable (lent bytes ts) (length (ts .tasks)) (a .offsets) i l (rw e) in
       by-bool (readable (lent bytes ts .idle-shown (a .idle))) (λ b. rw (b, tasks)) (λ b. rw b)
 
   read-so : (Unreadable ts (hyperperiod ts) (lent bytes ts) a → ⊥) → all-read
   read-so read = by-bool (all-readable (setting ts) (lent bytes ts) (a .offsets) (a .idle)) (λ e. e) (λ e. absurd (read (unread e)))
 
-module _ (bytes : List ℕ) (ts : List Task) (keep : (i : ℕ) → KeepsItsRule (task ts i)) where
+module _ (bytes : List ℕ) (ts : Set) (keep : (i : ℕ) → KeepsItsRule (task ts i)) where
   abbrev G : Setting
   G = setting ts
 
@@ -92,7 +91,7 @@ module _ (bytes : List ℕ) (ts : List Task) (keep : (i : ℕ) → KeepsItsRule 
   choice a t = shown-choice G S a t
 
   -- with a job left and all offsets read, what is worked out is decided next
-  next-decided : (a : Standing (List ℕ)) (c : Choice) → all-started h ts (a .next) ≡ false → all-read bytes ts a → choice a (instant G (a .next) (a .free)) ≡ c →
+  next-decided : (a : Standing (List ℕ)) (c : Choice) → all-started h (ts .tasks) (a .next) ≡ false → all-read bytes ts a → choice a (instant G (a .next) (a .free)) ≡ c →
       DecidesFrom ts h S a (instant G (a .next) (a .free)) c
   next-decided a c left read d =
       let t : ℕ = instant G (a .next) (a .free) in
@@ -108,7 +107,7 @@ module _ (bytes : List ℕ) (ts : List Task) (keep : (i : ℕ) → KeepsItsRule 
   decided-next {a} {t} {c} d = offsets-decide bytes ts a t (d .at-instant .some-job) c .0 (d .decides)
 
   -- in turns that are enough for what is left of the cycle
-  stuck-in : (turns : ℕ) (a : Standing (List ℕ)) (number : ℕ) → all-started h ts (a .next) ≡ false → h < turns + a .free → 1 ≤ turns →
+  stuck-in : (turns : ℕ) (a : Standing (List ℕ)) (number : ℕ) → all-started h (ts .tasks) (a .next) ≡ false → h < turns + a .free → 1 ≤ turns →
       start-from a ≡ stuck number → StuckAt ts h S a
   stuck-in zero a number left past some e = absurd (omega arith)
   stuck-in (suc turns) a number left past some e =
@@ -129,9 +128,10 @@ module _ (bytes : List ℕ) (ts : List Task) (keep : (i : ℕ) → KeepsItsRule 
       (λ l. let b : entry-breaks ts h x t i t ≡ 0 = breaks-none ts h x t i t (waits-keeps ts h x t i (started-waits ts h (n .decides) refl) (λ y. omega arith)) in
       let w : late (entry-breaks ts h x t i t) ≡ 0 = ap late b in clash (cc))
       (λ l. l)))
+      (λ r u d. absurd (rule-never-waits ts h (next-decided a (wait-till r) left u d .decides) refl))
 
   -- with a job left, a search that is stuck meets what 25 names
-  pub stuck-at : (a : Standing (List ℕ)) (number : ℕ) → all-started h ts (a .next) ≡ false → start-from a ≡ stuck number → StuckAt ts h S a
+  pub stuck-at : (a : Standing (List ℕ)) (number : ℕ) → all-started h (ts .tasks) (a .next) ≡ false → start-from a ≡ stuck number → StuckAt ts h S a
   stuck-at a number left e = stuck-in (suc h) a number left (omega arith) (omega arith) e
 
   -- where a decision meets it, the search is stuck

@@ -33,6 +33,10 @@ pub record Laws (G : Setting) : Type 0 where
   -- the baseline waits only for later instants
   pub waits-later : (x : G .Started) (t r : ℕ) → G .baseline x t ≡ wait r → t < r
 
+-- a baseline that never waits
+abbrev pub NeverWaits : Setting → Type 0
+NeverWaits G = (x : G .Started) (t r : ℕ) → G .baseline x t ≡ wait r → ⊥
+
 -- a valid timetable from a point on: what has started, and the instant from which the processor is free
 pub data ValidFrom (G : Setting) : G .Started → ℕ → List Entry → Type 0 where
   finished : {x : G .Started} {f : ℕ} → G .all-started x ≡ true → ValidFrom G x f []

@@ -4,10 +4,9 @@ use mathlib.Core.List.{List, [], _∷_}
 use mathlib.Core.Option.{Option, none, some}
 use Prim.Native.Nat.{ℕ, zero, suc, _+_, _≤_, _<_}
 use native.Mathlib.Omega.{arith}
-use Rattle.rules.specs.declared.Task.{Task}
 use Rattle.rules.specs.declared.Idle.{Idle}
 use Rattle.rules.specs.declared.Inversion.{Inversion}
-use Rattle.rules.specs.Tasks.{hyperperiod, set-fault}
+use Rattle.rules.specs.Tasks.{Set, hyperperiod, set-fault}
 use Rattle.rules.specs.Setting.{Setting, Tables}
 use Rattle.rules.specs.Priority.{setting}
 use Rattle.rules.specs.Decision.{idle-for, first-idle, later-idles, start-before, delays, step, replay-from, replay}
@@ -79,7 +78,7 @@ module _ (G : Setting) (L : Laws G) where
       (omega arith)
 
 -- the same for document 01's setting, of tables whose records have no fault
-pub set-replay-enough : (ts : List Task) (N : ℕ) (X : Tables) → set-fault ts ≡ none → records-fault ts (hyperperiod ts) X ≡ none → hyperperiod ts < N →
+pub set-replay-enough : (ts : Set) (N : ℕ) (X : Tables) → set-fault ts ≡ none → records-fault ts (hyperperiod ts) X ≡ none → hyperperiod ts < N →
     replay-from (setting ts) N [] 0 (X .idles) (X .inversions) ≡ replay (setting ts) [] X
 set-replay-enough ts N X e r h =
     replay-enough (setting ts) (laws ts e) N [] X (records-keep ts (hyperperiod ts) X r .rising) h

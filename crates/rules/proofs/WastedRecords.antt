@@ -1,70 +1,43 @@
--- PV records without effect: from start to start the least offset of such a record is kept. Where all ID records have been used, it is where the tables
+-- PV records without effect: from start to start the least offset of such a record is kept. Where all ID records are derived ones, it is where the tables
 -- given and the tables derived first differ. Assumes nothing.
 use mathlib.Core.Path.{_≡_, refl, sym, _∙_, ap}
 use mathlib.Core.Bool.{Bool, true, false}
-use mathlib.Core.List.{List, [], _∷_, _++_, append-nil, List·Memᴰ, List·Memᴰ·head, List·Memᴰ·tail}
-use mathlib.Core.Option.{Option, none, some}
-use Prim.Native.Nat.{ℕ, suc, _+_, _*_, _-_, min, _≤_, _<_}
+use mathlib.Core.List.{List, [], _∷_, _++_, List·Memᴰ, List·Memᴰ·head, List·Memᴰ·tail}
+use mathlib.Core.Option.{none, some}
+use Prim.Native.Nat.{ℕ, suc, _+_, _*_, min, _≤_, _<_}
 use native.Mathlib.Omega.{arith}
-use native.Mathlib.Nat.{add-zero}
 use lib.Dec.{ltb}
-use lib.ListN.{length, length-append}
-use borrow.Author.Tests.{ltb-true, ltb-false, lt-ltb, le-ltb, eq-eqb, ne-eqb}
-use Rattle.rules.specs.declared.Task.{Task}
+use lib.ListN.{length}
+use borrow.Author.Tests.{ltb-true, ltb-false, lt-ltb, le-ltb}
 use Rattle.rules.specs.declared.Entry.{Entry}
-use Rattle.rules.specs.declared.Idle.{Idle}
 use Rattle.rules.specs.declared.Inversion.{Inversion}
-use Rattle.rules.specs.declared.Refusal.{Refusal}
 use Rattle.rules.specs.Refusals.{gives, refuses, refusal, first, then, or-else}
-use Rattle.rules.specs.Tasks.{both, task, jobs, hyperperiod, set-fault}
+use Rattle.rules.specs.Tasks.{Set, both, task, jobs, hyperperiod, set-fault}
 use Rattle.rules.specs.Setting.{Tables}
-use Rattle.rules.specs.Priority.{slot, start-job, all-started, by-priority, setting}
-use Rattle.rules.specs.Irregularities.{at-most, runs, forced-idles, inversion-of, inversions}
+use Rattle.rules.specs.Priority.{slot, start-job, all-started, setting}
+use Rattle.rules.specs.Irregularities.{at-most, runs, inversion-of, inversions}
 use Rattle.rules.specs.Decision.{delay-of, replay}
-use Rattle.rules.specs.Judging.{inversion-in-range, records-fault, same-idle, same-inversion, inversions-differ, records-differ, tables-differ, tables, compared, judge-tables}
+use Rattle.rules.specs.Judging.{inversion-in-range, records-fault, inversions-differ, tables-differ, tables, compared, judge-tables}
 use Rattle.rules.specs.Marks.{ID, PV, size}
-use Rattle.rules.specs.Offsets.{Shown, last-offset, lent, past-own, standing, next-is, stuck, next-start, tables-offset}
+use Rattle.rules.specs.Offsets.{Shown, last-offset, lent, past-own, standing, next-is, stuck, next-start}
+use Rattle.rules.specs.Image.{head-length, head-count}
 use Rattle.rules.proofs.Cases.{by-bool, by-option, by-eq, by-pair, clash, both-true, none-first, or-else-none}
 use Rattle.rules.proofs.Theory.{ValidFrom, Pairs}
-use Rattle.rules.proofs.Pairs.{at-most-le, at-most-next, above-ne, delay-here, delay-there, delay-bound, delay-insert-same, Sub, sub-nil, sub-skip, sub-same, sub-of}
+use Rattle.rules.proofs.Pairs.{at-most-le, delay-here, delay-there, delay-bound, delay-insert-same, sub-of}
 use Rattle.rules.proofs.Derived.{Every, inversions-pairs}
 use Rattle.rules.proofs.Replayed.{yields}
 use Rattle.rules.proofs.PriorityLaws.{slot-empty, slot-start-same, slot-start-other}
-use Rattle.rules.proofs.RisingPairs.{not-below, member-passes}
+use Rattle.rules.proofs.RisingPairs.{member-passes}
 use Rattle.rules.proofs.Records.{keep-records}
 use Rattle.rules.proofs.JudgedTables.{laws}
 use Rattle.rules.proofs.PossibleStates.{none-left}
-use Rattle.rules.proofs.Shown.{not-both, delay-above}
-use Rattle.rules.proofs.Slots.{Same, priority-same}
+use Rattle.rules.proofs.Shown.{not-both}
+use Rattle.rules.proofs.FirstDifferences.{is-missing, missing-in, before-passing, found-at, before-same, differs-first}
+use Rattle.rules.proofs.Slots.{Same, by-slots}
 use Rattle.rules.proofs.ShownAt.{Stand}
 use Rattle.rules.proofs.OneMoreStart.{after-starts, inversions-other, inversions-own}
+use Rattle.rules.proofs.KeptOffsets.{Keeps, kept-differs}
 use Rattle.rules.proofs.OffsetReplay.{first-inversion-offset, before-pair, before-with, before-few, inversion-after, past-without, past-with, ReplaysAt, replay-done, replay-stuck, next-replayed, shown-delay}
-
--- is there no delay
-abbrev pub is-missing : Option ℕ → Bool
-is-missing none = true
-is-missing (some d) = false
-
--- a table has no record of a record's job
-abbrev pub missing-in : List Inversion → Inversion → Bool
-missing-in q r = is-missing (delay-of q (r .task) (r .job))
-
--- the number of records before the first that passes a test, of all of them where none does
-abbrev pub before-passing : (Inversion → Bool) → List Inversion → ℕ
-before-passing passes [] = 0
-before-passing passes (r ∷ p) = elim (passes r) [ true ↦ 0 | false ↦ suc (before-passing passes p) ]
-
--- 19 at the first record that passes, where one does
-abbrev pub found-at : ℕ → ℕ → ℕ → Option Refusal
-found-at place m many = elim (ltb m many) [ true ↦ some (refusal 19 (place + m)) | false ↦ none ]
-
--- tests that agree on a table's records pass first at the same one
-before-same : (a b : Inversion → Bool) (p : List Inversion) → ((r : Inversion) → List·Memᴰ r p → a r ≡ b r) → before-passing a p ≡ before-passing b p
-before-same a b [] h = refl
-before-same a b (r ∷ p) h =
-    let e : a r ≡ b r = h r (List·Memᴰ·head refl) in
-    by-bool (b r) (λ c. let c′ : a r ≡ true = e ∙ c in rw (c, c′, before-passing))
-    (λ c. let c′ : a r ≡ false = e ∙ c in rw (c, c′, before-passing) (ap suc (before-same a b p (λ s m. h s (List·Memᴰ·tail m)))))
 
 -- a table has a delay for the job of each of its records
 member-delay : {r : Inversion} (p : List Inversion) → List·Memᴰ r p → delay-of p (r .task) (r .job) ≡ none → ⊥
@@ -97,97 +70,19 @@ before-more a b i k d c e (r ∷ p) z g others own =
     rw (y, y′, l, before-passing, before-pair)
     (omega (arith, before-more a b i k d (r .task) (suc (r .job)) p (z .1) g′ others own)))))
 
--- a record is the same as itself
-same-inversion-self : (r : Inversion) → same-inversion r r ≡ true
-same-inversion-self r = rw (eq-eqb (r .task) (r .task) refl, eq-eqb (r .job) (r .job) refl, eq-eqb (r .delay) (r .delay) refl)
-
--- so is an idle record
-same-idle-self : (r : Idle) → same-idle r r ≡ true
-same-idle-self r = rw (eq-eqb (r .start) (r .start) refl, eq-eqb (r .length) (r .length) refl)
-
--- and not the same as one of another job
-same-inversion-other : (r s : Inversion) → (r .task ≡ s .task → r .job ≡ s .job → ⊥) → same-inversion r s ≡ false
-same-inversion-other r s n =
-    by-eq (r .task) (s .task) (λ u. rw (eq-eqb _ _ u, ne-eqb (r .job) (s .job) (λ v. n u v))) (λ u. rw (ne-eqb _ _ u))
-
--- pairs that rise from the one next to a pair rise from any pair up to it
-pairs-from : (a b i k : ℕ) (q : List Inversion) → at-most a b i k ≡ true → Pairs i (suc k) q → Pairs a b q
-pairs-from a b i k [] h z = tt
-pairs-from a b i k (s ∷ q) h z = (at-most-next a b i k (s .task) (s .job) h (z .0), z .1)
-
--- the pairs of a list within a rising one rise
-sub-pairs : (a b : ℕ) {q p : List Inversion} → Sub q p → Pairs a b p → Pairs a b q
-sub-pairs a b sub-nil z = tt
-sub-pairs a b (sub-skip {a = r} {p = q} s) z = pairs-from a b (r .task) (r .job) q (z .0) (sub-pairs (r .task) (suc (r .job)) s (z .1))
-sub-pairs a b (sub-same {a = r} s) z = (z .0, sub-pairs (r .task) (suc (r .job)) s (z .1))
-
--- a table whose records are above a record differs from one that begins with it
-differs-here : (place : ℕ) (r : Inversion) (p q : List Inversion) → Pairs (r .task) (suc (r .job)) q →
-    inversions-differ place (r ∷ p) q ≡ some (refusal 19 place)
-differs-here place r p [] z = refl
-differs-here place r p (s ∷ q) z = rw (same-inversion-other r s (above-ne (r .task) (r .job) (s .task) (s .job) (z .0)))
-
--- what is found behind the first record is found one place later
-found-next : (place m many : ℕ) → found-at (suc place) m many ≡ found-at place (suc m) (suc many)
-found-next place m many =
-    let next-place : suc place + m ≡ place + suc m = omega arith in
-    by-bool (ltb m many)
-    (λ l. rw (l, lt-ltb (suc m) (suc many) (omega (arith, ltb-true m many l)), found-at) (ap (λ (k : ℕ). some (refusal 19 k)) next-place))
-    (λ l. rw (l, le-ltb (suc m) (suc many) (omega (arith, ltb-false m many l)), found-at))
-
--- of a rising table and one within it, the first difference is at the first record that is missing
-pub differs-first : (place a b : ℕ) {q p : List Inversion} → Sub q p → Pairs a b p →
-    inversions-differ place p q ≡ found-at place (before-passing (missing-in q) p) (length p)
-differs-first place a b sub-nil z = refl
-differs-first place a b (sub-skip {a = r} {p = q} {q = p} s) z =
-    let above : Pairs (r .task) (suc (r .job)) q = sub-pairs (r .task) (suc (r .job)) s (z .1) in
-    let gone : delay-of q (r .task) (r .job) ≡ none =
-    delay-above (r .task) (suc (r .job)) q above (r .task) (r .job) (λ e. above-ne (r .task) (r .job) (r .task) (r .job) e refl refl) in
-    differs-here place r p q above ∙ rw (gone, before-passing) (rw (lt-ltb 0 (suc (length p)) (omega arith), add-zero place, found-at))
-differs-first place a b (sub-same {a = r} {p = q} {q = p} s) z =
-    let there : delay-of (r ∷ q) (r .task) (r .job) ≡ some (r .delay) = delay-here r q (r .task) (r .job) refl refl in
-    let rest : before-passing (missing-in (r ∷ q)) p ≡ before-passing (missing-in q) p =
-    before-same (missing-in (r ∷ q)) (missing-in q) p
-    (λ v m. ap is-missing
-    (delay-there r q (v .task) (v .job)
-    (above-ne (r .task) (r .job) (v .task) (v .job) (not-below (r .task) (suc (r .job)) p (z .1) m)))) in
-    rw (same-inversion-self r, there, rest, before-passing)
-    (differs-first (suc place) (r .task) (suc (r .job)) s (z .1) ∙ found-next place (before-passing (missing-in q) p) (length p))
-
--- idle records of which the first ones are derived and no more: the first difference comes behind these
-idles-then : (place : ℕ) (used left : List Idle) (p q : List Inversion) → 0 < length left →
-    records-differ place (used ++ left) used p q ≡ some (refusal 19 (place + length used))
-idles-then place [] [] p q some-left = absurd (omega arith)
-idles-then place [] (r ∷ left) p q some-left = rw (add-zero place)
-idles-then place (r ∷ used) left p q some-left =
-    let next-place : suc place + length used ≡ place + suc (length used) = omega arith in
-    rw (same-idle-self r) (idles-then (suc place) used left p q some-left ∙ rw next-place)
-
--- idle records that are all derived: the first difference is that of the inversions
-idles-all : (place : ℕ) (used : List Idle) (p q : List Inversion) → records-differ place used used p q ≡ inversions-differ (place + length used) p q
-idles-all place [] p q = rw (add-zero place)
-idles-all place (r ∷ used) p q =
-    let next-place : suc place + length used ≡ place + suc (length used) = omega arith in
-    rw (same-idle-self r) (idles-all (suc place) used p q ∙ rw next-place)
-
--- a list without elements
-nothing-left : {A : Type 0} (k : List A) → length k ≡ 0 → k ≡ []
-nothing-left [] e = refl
-nothing-left (a ∷ k) e = absurd (omega arith)
-
 -- a record without effect so far: its job has started, and no inversion was derived for it
-abbrev pub without-effect : List Task → List Entry → List ℕ → Inversion → Bool
+abbrev pub without-effect : Set → List Entry → List ℕ → Inversion → Bool
 without-effect ts σ x r = both (ltb (r .job) (slot x (r .task))) (missing-in (inversions (setting ts) [] σ) r)
 
 -- the offset of the PV behind so many of them; the last offset where there is no such PV
-abbrev pub offset-behind : List Task → Tables → ℕ → ℕ
+abbrev pub offset-behind : Set → Tables → ℕ → ℕ
 offset-behind ts X m = elim (ltb m (length (X .inversions))) [ true ↦ first-inversion-offset ts X + m * size PV | false ↦ last-offset ]
 
 -- after starts, this is the least offset of a PV without effect so far
-pub record Wastes (ts : List Task) (X : Tables) (σ : List Entry) (x : List ℕ) (wasted : ℕ) : Type 0 where
+pub record Wastes (ts : Set) (X : Tables) (σ : List Entry) (x : List ℕ) (wasted : ℕ) : Type 0 where
   pub least : wasted ≡ offset-behind ts X (before-passing (without-effect ts σ x) (X .inversions))
 
-module _ {bytes : List ℕ} {ts : List Task} {X : Tables} {n : ℕ} (st : Stand bytes ts X n) (good : set-fault ts ≡ none) where
+module _ {bytes : List ℕ} {ts : Set} {X : Tables} {n : ℕ} (st : Stand bytes ts X n) (good : set-fault ts ≡ none) where
   -- the lower of two such offsets is that behind the lower number
   lower-offset : (m b : ℕ) → b < length (X .inversions) →
       min (offset-behind ts X m) (first-inversion-offset ts X + b * size PV) ≡ offset-behind ts X (min m b)
@@ -198,17 +93,17 @@ module _ {bytes : List ℕ} {ts : List Task} {X : Tables} {n : ℕ} (st : Stand 
       (λ c. rw (c, least-of, offset-behind) (omega (arith, ltb-false m (length (X .inversions)) c, st .short)))
 
   -- with nothing started none is without effect
-  nothing-started : (x : List ℕ) (p : List Inversion) → Same (length ts) x [] → Every (inversion-in-range ts (hyperperiod ts)) p →
+  nothing-started : (x : List ℕ) (p : List Inversion) → Same (length (ts .tasks)) x [] → Every (inversion-in-range ts (hyperperiod ts)) p →
       before-passing (without-effect ts [] x) p ≡ length p
   nothing-started x [] s z = refl
   nothing-started x (r ∷ p) s z =
-      let l : r .task < length ts = ltb-true (r .task) (length ts) (both-true (ltb (r .task) (length ts)) _ (z .0) .0) in
+      let l : r .task < length (ts .tasks) = ltb-true (r .task) (length (ts .tasks)) (both-true (ltb (r .task) (length (ts .tasks))) _ (z .0) .0) in
       let none-yet : ltb (r .job) (slot x (r .task)) ≡ false =
       le-ltb (r .job) (slot x (r .task)) (omega (arith, s (r .task) l, slot-empty (r .task))) in
       rw (none-yet, before-passing) (ap suc (nothing-started x p s (z .1)))
 
   -- at the start of a cycle
-  pub wastes-begin : (x : List ℕ) → Same (length ts) x [] → Wastes ts X [] x last-offset
+  pub wastes-begin : (x : List ℕ) → Same (length (ts .tasks)) x [] → Wastes ts X [] x last-offset
   wastes-begin x s = record {
     least = let many : ℕ = length (X .inversions) in
         rw (nothing-started x (X .inversions) s (st .keep-rules .in-range), le-ltb many many (omega arith), offset-behind);
@@ -216,15 +111,15 @@ module _ {bytes : List ℕ} {ts : List Task} {X : Tables} {n : ℕ} (st : Stand 
 
   -- a start
   module _ {σ : List Entry} {x : List ℕ} {f : ℕ} {offsets : List ℕ} {o wasted : ℕ} (R : ReplaysAt bytes ts X σ x f offsets o)
-      (W : Wastes ts X σ x wasted) (left : all-started (hyperperiod ts) ts x ≡ false) (i t w : ℕ)
+      (W : Wastes ts X σ x wasted) (left : all-started (hyperperiod ts) (ts .tasks) x ≡ false) (i t w : ℕ)
       (next : next-start (setting ts) (lent bytes ts) (standing x f offsets o) ≡ next-is i t w) where
     -- the starts with this one more
     abbrev more : List Entry
     more = σ ++ (record { task = i; start = t } ∷ [])
 
     -- the task is one of the set's
-    its-task : i < length ts
-    its-task = next-replayed st good R left i t w next .keeps .a-task
+    its-task : i < length (ts .tasks)
+    its-task = laws ts good .a-task x t i t (next-replayed st good R left i t w next .keeps)
 
     -- records of other jobs are as they were
     others-stay : (r : Inversion) → (r .task ≡ i → r .job ≡ slot x i → ⊥) → without-effect ts more (start-job x i) r ≡ without-effect ts σ x r
@@ -249,7 +144,7 @@ module _ {bytes : List ℕ} {ts : List Task} {X : Tables} {n : ℕ} (st : Stand 
 
     -- now it is, unless the start is an inversion
     own-after : (r : Inversion) → r .task ≡ i → r .job ≡ slot x i →
-        without-effect ts more (start-job x i) r ≡ runs (by-priority ts (hyperperiod ts) x t) i
+        without-effect ts more (start-job x i) r ≡ runs (setting ts .baseline x t) i
     own-after r u v =
         let h : ℕ = hyperperiod ts in
         let y : List ℕ = after-starts [] σ in
@@ -259,13 +154,14 @@ module _ {bytes : List ℕ} {ts : List Task} {X : Tables} {n : ℕ} (st : Stand 
         lt-ltb (r .job) (slot (start-job x i) (r .task)) (rw (u, v) (omega (arith, slot-start-same x i))) in
         let own : delay-of (inversions (setting ts) [] more) (r .task) (r .job) ≡ delay-of (inversions (setting ts) y (start ∷ [])) i (slot y i) =
         rw (u, v, same) (inversions-own ts h [] σ start) in
-        let runs-same : runs (by-priority ts h x t) i ≡ runs (by-priority ts h y t) i = ap (λ a. runs a i) (priority-same ts h x y t (R .started)) in
+        let runs-same : runs (setting ts .baseline x t) i ≡ runs (setting ts .baseline y t) i =
+        ap (λ a. runs a i) (by-slots ts h .baseline-same x y t (R .started)) in
         rw (is-started, own, runs-same)
-        (by-bool (runs (by-priority ts h y t) i) (λ b. rw b)
+        (by-bool (runs (setting ts .baseline y t) i) (λ b. rw b)
         (λ b. rw b (ap is-missing (delay-insert-same (inversion-of (setting ts) y start) []))))
 
     -- the start is an inversion: no record more is without effect
-    pub start-inverts : runs (by-priority ts (hyperperiod ts) x t) i ≡ false → Wastes ts X more (start-job x i) wasted
+    pub start-inverts : runs (setting ts .baseline x t) i ≡ false → Wastes ts X more (start-job x i) wasted
     start-inverts b = record {
       least = W .least
           ∙ ap (offset-behind ts X)
@@ -293,7 +189,7 @@ module _ {bytes : List ℕ} {ts : List Task} {X : Tables} {n : ℕ} (st : Stand 
 
     -- the job has a record of its own and the baseline would have run it: that record is without effect
     pub start-wastes : (past-own (lent bytes ts .inversion-shown (slot offsets i)) i (slot x i) (slot offsets i) ≡ slot offsets i → ⊥) →
-        runs (by-priority ts (hyperperiod ts) x t) i ≡ true → Wastes ts X more (start-job x i) (min wasted (slot offsets i))
+        runs (setting ts .baseline x t) i ≡ true → Wastes ts X more (start-job x i) (min wasted (slot offsets i))
     start-wastes moves b =
         let p : List Inversion = X .inversions in
         let shown : Shown Inversion = lent bytes ts .inversion-shown (slot offsets i) in
@@ -312,15 +208,11 @@ module _ {bytes : List ℕ} {ts : List Task} {X : Tables} {n : ℕ} (st : Stand 
         })
 
   -- all jobs have started
-  module _ {σ : List Entry} {x : List ℕ} {f : ℕ} {offsets : List ℕ} {o wasted : ℕ} (R : ReplaysAt bytes ts X σ x f offsets o)
-      (W : Wastes ts X σ x wasted) (done : all-started (hyperperiod ts) ts x ≡ true) where
+  module _ {σ : List Entry} {x : List ℕ} {f : ℕ} {offsets : List ℕ} {o kept wasted : ℕ} (R : ReplaysAt bytes ts X σ x f offsets o)
+      (K : Keeps ts X σ x f o kept) (W : Wastes ts X σ x wasted) (done : all-started (hyperperiod ts) (ts .tasks) x ≡ true) where
     -- the starts are a valid timetable
     pub done-valid : ValidFrom (setting ts) [] 0 σ
     done-valid = yields (setting ts) (laws ts good) (suc (hyperperiod ts)) [] 0 (X .idles) (X .inversions) σ (replay-done st good R done)
-
-    -- its forced idles are the used idle records
-    done-idles : forced-idles (setting ts) [] 0 σ ≡ R .idles-used
-    done-idles = ap (forced-idles (setting ts) [] 0) (sym (append-nil σ)) ∙ R .forced-so-far [] ∙ append-nil (R .idles-used)
 
     -- a record is without effect where no inversion was derived for it
     done-without-effect : before-passing (without-effect ts σ x) (X .inversions)
@@ -328,7 +220,7 @@ module _ {bytes : List ℕ} {ts : List Task} {X : Tables} {n : ℕ} (st : Stand 
     done-without-effect =
         before-same (without-effect ts σ x) (missing-in (inversions (setting ts) [] σ)) (X .inversions)
         (λ r m.
-        let a = both-true (ltb (r .task) (length ts)) _
+        let a = both-true (ltb (r .task) (length (ts .tasks))) _
         (member-passes (inversion-in-range ts (hyperperiod ts)) (X .inversions) (st .keep-rules .in-range) m) in
         let b = both-true (ltb (r .job) (jobs (hyperperiod ts) (task ts (r .task)))) _ (a .1) in
         let is-started : ltb (r .job) (slot x (r .task)) ≡ true =
@@ -336,7 +228,7 @@ module _ {bytes : List ℕ} {ts : List Task} {X : Tables} {n : ℕ} (st : Stand 
         (omega (
           arith,
           ltb-true (r .job) (jobs (hyperperiod ts) (task ts (r .task))) (b .0),
-          none-left (hyperperiod ts) ts x done (r .task) (ltb-true (r .task) (length ts) (a .0)),
+          none-left (hyperperiod ts) ts x done (r .task) (ltb-true (r .task) (length (ts .tasks)) (a .0)),
         )) in
         rw is-started)
 
@@ -350,37 +242,30 @@ module _ {bytes : List ℕ} {ts : List Task} {X : Tables} {n : ℕ} (st : Stand 
         (st .keep-rules .pairs)
         ∙ ap (λ (m : ℕ). found-at place m (length (X .inversions))) (sym done-without-effect)
 
-    -- an ID was not used: the tables differ there
-    pub idle-unused : o < first-inversion-offset ts X →
-        (q : ℕ) × (q < length (X .idles)) × (o ≡ tables-offset ts + q * size ID)
-        × (tables-differ (suc (length ts)) X (tables ts σ) ≡ some (refusal 19 (suc (length ts) + q)))
+    -- an ID is not a derived one: the tables differ at the first such
+    pub idle-unused : kept < first-inversion-offset ts X →
+        (q : ℕ) × (q < length (X .idles)) × (kept ≡ head-length ts + q * size ID)
+        × (tables-differ (head-count ts) X (tables ts σ) ≡ some (refusal 19 (head-count ts + q)))
     idle-unused lt =
-        let used : List Idle = R .idles-used in
-        let rest : List Idle = R .idles-left in
-        let total : length (X .idles) ≡ length used + length rest = ap length (R .all-idles) ∙ length-append used rest in
-        let some-left : 0 < length rest = omega (arith, R .idle-offset) in (
-          length used,
-          omega arith,
-          R .idle-offset,
-          rw (R .all-idles, done-idles) (idles-then (suc (length ts)) used rest (X .inversions) (inversions (setting ts) [] σ) some-left),
+        let some-left : K .many < length (X .idles) = omega (arith, K .kept-offset) in (
+          K .many,
+          some-left,
+          K .kept-offset,
+          kept-differs st good R K done (head-count ts) ∙ rw (lt-ltb (K .many) (length (X .idles)) some-left, found-at),
         )
 
-    -- all IDs were used: the tables differ where the inversions do
-    idles-used-up : first-inversion-offset ts X ≤ o →
-        tables-differ (suc (length ts)) X (tables ts σ)
-        ≡ inversions-differ (suc (length ts) + length (X .idles)) (X .inversions) (inversions (setting ts) [] σ)
+    -- all IDs are derived: the tables differ where the inversions do
+    idles-used-up : first-inversion-offset ts X ≤ kept →
+        tables-differ (head-count ts) X (tables ts σ)
+        ≡ inversions-differ (head-count ts + length (X .idles)) (X .inversions) (inversions (setting ts) [] σ)
     idles-used-up le =
-        let used : List Idle = R .idles-used in
-        let rest : List Idle = R .idles-left in
-        let total : length (X .idles) ≡ length used + length rest = ap length (R .all-idles) ∙ length-append used rest in
-        let all : X .idles ≡ used =
-        R .all-idles ∙ ap (λ (k : List Idle). used ++ k) (nothing-left rest (omega (arith, R .idle-offset))) ∙ append-nil used in
-        rw (all, done-idles) (idles-all (suc (length ts)) used (X .inversions) (inversions (setting ts) [] σ))
+        kept-differs st good R K done (head-count ts)
+        ∙ rw (le-ltb (K .many) (length (X .idles)) (omega (arith, K .kept-offset)), found-at)
 
     -- a PV was without effect: the tables differ at the first such
-    pub inversion-wasted : first-inversion-offset ts X ≤ o → (wasted ≡ last-offset → ⊥) →
+    pub inversion-wasted : first-inversion-offset ts X ≤ kept → (wasted ≡ last-offset → ⊥) →
         (q : ℕ) × (q < length (X .inversions)) × (wasted ≡ first-inversion-offset ts X + q * size PV)
-        × (tables-differ (suc (length ts)) X (tables ts σ) ≡ some (refusal 19 (suc (length ts) + length (X .idles) + q)))
+        × (tables-differ (head-count ts) X (tables ts σ) ≡ some (refusal 19 (head-count ts + length (X .idles) + q)))
     inversion-wasted le some-wasted =
         let p : List Inversion = X .inversions in
         let m : ℕ = before-passing (without-effect ts σ x) p in
@@ -389,12 +274,12 @@ module _ {bytes : List ℕ} {ts : List Task} {X : Tables} {n : ℕ} (st : Stand 
           m,
           ltb-true m (length p) b,
           W .least ∙ rw (b, offset-behind),
-          idles-used-up le ∙ done-inversions (suc (length ts) + length (X .idles)) ∙ rw (b, found-at),
+          idles-used-up le ∙ done-inversions (head-count ts + length (X .idles)) ∙ rw (b, found-at),
         ))
         (λ b. absurd (some-wasted (W .least ∙ rw (b, offset-behind))))
 
     -- none was: the tables are the same
-    pub nothing-wasted : first-inversion-offset ts X ≤ o → wasted ≡ last-offset → tables-differ (suc (length ts)) X (tables ts σ) ≡ none
+    pub nothing-wasted : first-inversion-offset ts X ≤ kept → wasted ≡ last-offset → tables-differ (head-count ts) X (tables ts σ) ≡ none
     nothing-wasted le none-wasted =
         let p : List Inversion = X .inversions in
         let m : ℕ = before-passing (without-effect ts σ x) p in
@@ -402,7 +287,7 @@ module _ {bytes : List ℕ} {ts : List Task} {X : Tables} {n : ℕ} (st : Stand 
         (λ b.
         let there : wasted ≡ first-inversion-offset ts X + m * size PV = W .least ∙ rw (b, offset-behind) in
         absurd (omega (arith, ltb-true m (length p) b, st .short)))
-        (λ b. idles-used-up le ∙ done-inversions (suc (length ts) + length (X .idles)) ∙ rw (b, found-at))
+        (λ b. idles-used-up le ∙ done-inversions (head-count ts + length (X .idles)) ∙ rw (b, found-at))
 
   -- records that keep their rules are judged by replay and comparison
   pub judged-by-replay : judge-tables ts X ≡ then (replay (setting ts) [] X) (compared ts X)
@@ -412,31 +297,31 @@ module _ {bytes : List ℕ} {ts : List Task} {X : Tables} {n : ℕ} (st : Stand 
 
   module _ {σ : List Entry} {x : List ℕ} {f : ℕ} {offsets : List ℕ} {o : ℕ} (R : ReplaysAt bytes ts X σ x f offsets o) where
     -- the search for the next start is stuck: the tables are refused with 18 and the number of starts
-    pub judged-late : all-started (hyperperiod ts) ts x ≡ false → (number : ℕ) →
+    pub judged-late : all-started (hyperperiod ts) (ts .tasks) x ≡ false → (number : ℕ) →
         next-start (setting ts) (lent bytes ts) (standing x f offsets o) ≡ stuck number → judge-tables ts X ≡ refuses (refusal 18 (length σ))
     judged-late left number e = judged-by-replay ∙ ap (λ z. then z (compared ts X)) (replay-stuck st good R left number e)
 
     -- with all jobs started, what comparing comes to
-    module _ {wasted : ℕ} (W : Wastes ts X σ x wasted) (done : all-started (hyperperiod ts) ts x ≡ true) where
+    module _ {kept wasted : ℕ} (K : Keeps ts X σ x f o kept) (W : Wastes ts X σ x wasted) (done : all-started (hyperperiod ts) (ts .tasks) x ≡ true) where
       -- judging compares the tables with those of the starts
-      judged-as : judge-tables ts X ≡ or-else (tables-differ (suc (length ts)) X (tables ts σ)) (gives σ)
+      judged-as : judge-tables ts X ≡ or-else (tables-differ (head-count ts) X (tables ts σ)) (gives σ)
       judged-as = judged-by-replay ∙ ap (λ z. then z (compared ts X)) (replay-done st good R done)
 
-      -- an ID was not used: 19 at the first such
-      pub judged-unused : o < first-inversion-offset ts X →
-          (q : ℕ) × (q < length (X .idles)) × (o ≡ tables-offset ts + q * size ID) × (judge-tables ts X ≡ refuses (refusal 19 (suc (length ts) + q)))
+      -- an ID is not a derived one: 19 at the first such
+      pub judged-unused : kept < first-inversion-offset ts X →
+          (q : ℕ) × (q < length (X .idles)) × (kept ≡ head-length ts + q * size ID) × (judge-tables ts X ≡ refuses (refusal 19 (head-count ts + q)))
       judged-unused lt =
-          let (q, bound, there, differs) = idle-unused R W done lt in
+          let (q, bound, there, differs) = idle-unused R K W done lt in
           (q, bound, there, judged-as ∙ ap (λ d. or-else d (gives σ)) differs)
 
       -- a PV was without effect: 19 at the first such
-      pub judged-wasted : first-inversion-offset ts X ≤ o → (wasted ≡ last-offset → ⊥) →
+      pub judged-wasted : first-inversion-offset ts X ≤ kept → (wasted ≡ last-offset → ⊥) →
           (q : ℕ) × (q < length (X .inversions)) × (wasted ≡ first-inversion-offset ts X + q * size PV)
-          × (judge-tables ts X ≡ refuses (refusal 19 (suc (length ts) + length (X .idles) + q)))
+          × (judge-tables ts X ≡ refuses (refusal 19 (head-count ts + length (X .idles) + q)))
       judged-wasted le some-wasted =
-          let (q, bound, there, differs) = inversion-wasted R W done le some-wasted in
+          let (q, bound, there, differs) = inversion-wasted R K W done le some-wasted in
           (q, bound, there, judged-as ∙ ap (λ d. or-else d (gives σ)) differs)
 
       -- every record had its effect: the tables are accepted with the starts
-      pub judged-accepted : first-inversion-offset ts X ≤ o → wasted ≡ last-offset → judge-tables ts X ≡ gives σ
-      judged-accepted le none-wasted = judged-as ∙ ap (λ d. or-else d (gives σ)) (nothing-wasted R W done le none-wasted)
+      pub judged-accepted : first-inversion-offset ts X ≤ kept → wasted ≡ last-offset → judge-tables ts X ≡ gives σ
+      judged-accepted le none-wasted = judged-as ∙ ap (λ d. or-else d (gives σ)) (nothing-wasted R K W done le none-wasted)

@@ -14,7 +14,7 @@ use Rattle.rules.specs.declared.Task.{Task}
 use Rattle.rules.specs.declared.Entry.{Entry}
 use Rattle.rules.specs.declared.Idle.{Idle}
 use Rattle.rules.specs.declared.Inversion.{Inversion}
-use Rattle.rules.specs.Tasks.{limits, task, jobs, hyperperiod, GoodSet, set-fault}
+use Rattle.rules.specs.Tasks.{task-in, Set, limits, task, jobs, hyperperiod, GoodSet, set-fault}
 use Rattle.rules.specs.Setting.{Setting}
 use Rattle.rules.specs.Priority.{setting}
 use Rattle.rules.specs.Irregularities.{at-most, insert, runs, forced-idles, inversion-of, inversions}
@@ -28,13 +28,13 @@ use Rattle.rules.proofs.JudgedTables.{entry-in-range, laws}
 use Rattle.rules.proofs.GoodSets.{good-set, good-positive, good-rules}
 use Rattle.rules.proofs.ValidTimetables.{all-left, valid-from-length}
 
-module _ {ts : List Task} {h : ℕ} (g : GoodSet ts h) where
+module _ {ts : Set} {h : ℕ} (g : GoodSet ts h) where
   -- a period is at most the hyperperiod
-  period-in-cycle : (i : ℕ) → i < length ts → task ts i .period ≤ h
+  period-in-cycle : (i : ℕ) → i < length (ts .tasks) → task ts i .period ≤ h
   period-in-cycle i l = le-of-dvd (good-positive g) (g .is-hyperperiod .common i l)
 
   -- a task of a good set fits its record
-  task-fits : (i : ℕ) → i < length ts → Fit (row TK .widths) (of-task (task ts i))
+  task-fits : (i : ℕ) → i < length (ts .tasks) → Fit (row TK .widths) (of-task (task ts i))
   task-fits i l =
       let k = g .own-rules i l in
       let p = period-in-cycle i l in
@@ -44,9 +44,9 @@ module _ {ts : List Task} {h : ℕ} (g : GoodSet ts h) where
   -- an inversion in its range fits its record
   inversion-fits : (r : Inversion) → inversion-in-range ts h r ≡ true → Fit (row PV .widths) (of-inversion r)
   inversion-fits r e =
-      let u = both-true (ltb (r .task) (length ts)) _ e in
+      let u = both-true (ltb (r .task) (length (ts .tasks))) _ e in
       let v = both-true (ltb (r .job) (jobs h (task ts (r .task)))) _ (u .1) in
-      let i : r .task < length ts = ltb-true _ _ (u .0) in
+      let i : r .task < length (ts .tasks) = ltb-true _ _ (u .0) in
       let j : r .job < jobs h (task ts (r .task)) = ltb-true _ _ (v .0) in
       let k : r .delay ≤ task ts (r .task) .deadline - task ts (r .task) .time = leb-true _ _ (v .1) in
       let p = period-in-cycle (r .task) i in
@@ -60,7 +60,7 @@ module _ {ts : List Task} {h : ℕ} (g : GoodSet ts h) where
   inversions-fit (r ∷ p) e = (inversion-fits r (e .0), inversions-fit p (e .1))
 
 -- tasks that each fit fit together
-tasks-fit : (ts : List Task) → ((i : ℕ) → i < length ts → Fit (row TK .widths) (of-task (task ts i))) → Each (row TK .widths) (map of-task ts)
+tasks-fit : (ts : List Task) → ((i : ℕ) → i < length ts → Fit (row TK .widths) (of-task (task-in ts i))) → Each (row TK .widths) (map of-task ts)
 tasks-fit [] fits = tt
 tasks-fit (t ∷ ts) fits = (fits 0 (omega arith), tasks-fit ts (λ i l. fits (suc i) (omega arith)))
 
@@ -95,10 +95,10 @@ inversions-few G x (e ∷ τ) =
     by-bool (runs (G .baseline x (e .start)) (e .task)) (λ b. rw b (omega (arith, inversions-few G (G .start-job x (e .task)) τ)))
     (λ b. rw b (omega (arith, inversions-few G (G .start-job x (e .task)) τ, insert-length (inversion-of G x e) q)))
 
-module _ (ts : List Task) (τ : List Entry) (good : set-fault ts ≡ none) (valid : ValidFrom (setting ts) [] 0 τ) where
+module _ (ts : Set) (τ : List Entry) (good : set-fault ts ≡ none) (valid : ValidFrom (setting ts) [] 0 τ) where
   -- a valid timetable has no more entries than a cycle may have jobs
   pub entries-few : length τ ≤ limits .jobs
-  entries-few = omega (arith, valid-from-length ts (hyperperiod ts) valid, all-left (hyperperiod ts) ts, good-set ts good .few-jobs)
+  entries-few = omega (arith, valid-from-length ts (hyperperiod ts) valid, all-left (hyperperiod ts) (ts .tasks), good-set ts good .few-jobs)
 
   -- its forced idles rise within the cycle
   pub its-idles-rise : Rising (hyperperiod ts) 0 (forced-idles (setting ts) [] 0 τ)
@@ -111,7 +111,7 @@ module _ (ts : List Task) (τ : List Entry) (good : set-fault ts ≡ none) (vali
       record {
         some-tasks = g .some-tasks;
         few-tasks = g .few-tasks;
-        tasks-fit = tasks-fit ts (task-fits g);
+        tasks-fit = tasks-fit (ts .tasks) (task-fits g);
         entries-fit = entries-fit (setting ts) (laws ts good) valid (g .few-tasks) (g .short);
         count-fits = omega (arith, entries-few, g .few-tasks);
       }
@@ -123,7 +123,7 @@ module _ (ts : List Task) (τ : List Entry) (good : set-fault ts ≡ none) (vali
       record {
         some-tasks = g .some-tasks;
         few-tasks = g .few-tasks;
-        tasks-fit = tasks-fit ts (task-fits g);
+        tasks-fit = tasks-fit (ts .tasks) (task-fits g);
         idles-fit = idles-fit (hyperperiod ts) 0 (forced-idles (setting ts) [] 0 τ) its-idles-rise (g .short);
         inversions-fit = inversions-fit g (inversions (setting ts) [] τ)
             (inversions-every (setting ts) (inversion-in-range ts (hyperperiod ts)) (entry-in-range ts (hyperperiod ts)) valid);

@@ -25,10 +25,14 @@ pub data Effect : Type 0 where
   waits-till : ℕ → Effect
   stops : ℕ → Effect
 
+-- is it the record of job k of task i
+abbrev pub is-of : Inversion → ℕ → ℕ → Bool
+is-of r i k = both (eqb (r .task) i) (eqb (r .job) k)
+
 -- the delay that a table has for a job
 abbrev pub delay-of : List Inversion → ℕ → ℕ → Option ℕ
 delay-of [] i k = none
-delay-of (r ∷ rest) i k = elim (both (eqb (r .task) i) (eqb (r .job) k)) [ true ↦ some (r .delay) | false ↦ delay-of rest i k ]
+delay-of (r ∷ rest) i k = elim (is-of r i k) [ true ↦ some (r .delay) | false ↦ delay-of rest i k ]
 
 -- is a delay after a release this instant
 abbrev pub falls-at : Option ℕ → ℕ → ℕ → Bool

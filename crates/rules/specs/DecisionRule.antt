@@ -4,11 +4,10 @@ use mathlib.Core.Path.{_≡_}
 use mathlib.Core.List.{List, [], _∷_, List·Memᴰ}
 use Prim.Native.Nat.{ℕ, _+_, _≤_, _<_}
 use lib.ListN.{length}
-use Rattle.rules.specs.declared.Task.{Task}
 use Rattle.rules.specs.declared.Entry.{Entry}
 use Rattle.rules.specs.declared.Idle.{Idle}
 use Rattle.rules.specs.declared.Inversion.{Inversion}
-use Rattle.rules.specs.Tasks.{task, release, due, jobs}
+use Rattle.rules.specs.Tasks.{Set, task, release, due, jobs}
 use Rattle.rules.specs.Setting.{Tables}
 use Rattle.rules.specs.Priority.{slot, start-job}
 use Rattle.rules.specs.Decision.{Choice, idle-for, start-task}
@@ -23,10 +22,10 @@ pub record IdleStarts (FirstUnused : Idle → Type 0) (t : ℕ) (r : Idle) : Typ
   pub first-unused : FirstUnused r
   pub starts-now : r .start ≡ t
 
-module _ (ts : List Task) (h : ℕ) where
+module _ (ts : Set) (h : ℕ) where
   -- a task's job is waiting when it is that task's next and is released
   pub record Waiting (x : List ℕ) (t i : ℕ) : Type 0 where
-    pub a-task : i < length ts
+    pub a-task : i < length (ts .tasks)
     pub left : slot x i < jobs h (task ts i)
     pub released : release (task ts i) (slot x i) ≤ t
 
@@ -38,7 +37,7 @@ module _ (ts : List Task) (h : ℕ) where
 
   -- a task's next job has an inversion record with release + delay = t
   pub record Recorded (Has : Inversion → Type 0) (x : List ℕ) (t i : ℕ) : Type 0 where
-    pub a-task : i < length ts
+    pub a-task : i < length (ts .tasks)
     pub left : slot x i < jobs h (task ts i)
     pub inversion : Inversion
     pub has : Has inversion
@@ -69,19 +68,19 @@ abbrev pub after-idling : Replaying → ℕ → Idle → List Idle → Replaying
 after-idling a t r behind = record { next = a .next; free = t + r .length; unused = behind }
 
 -- after task i's next job has started at t: the processor is then taken for C
-abbrev pub after-starting : List Task → Replaying → ℕ → ℕ → Replaying
+abbrev pub after-starting : Set → Replaying → ℕ → ℕ → Replaying
 after-starting ts a t i = record { next = start-job (a .next) i; free = t + task ts i .time; unused = a .unused }
 
 -- a start at t of the task's next job would end after it is due
-abbrev pub TooLate : List Task → List ℕ → ℕ → ℕ → Type 0
+abbrev pub TooLate : Set → List ℕ → ℕ → ℕ → Type 0
 TooLate ts x i t = due (task ts i) (slot x i) < t + task ts i .time
 
 -- the decision by the unused idle records and a table's inversion records
-abbrev pub DecidesBy : List Task → ℕ → List Idle → List Inversion → List ℕ → ℕ → Choice → Type 0
+abbrev pub DecidesBy : Set → ℕ → List Idle → List Inversion → List ℕ → ℕ → Choice → Type 0
 DecidesBy ts h unused p x t c =
     Decides ts h (λ (r : Idle). (behind : List Idle) × (unused ≡ r ∷ behind)) (λ (r : Inversion). List·Memᴰ r p) x t c
 
-module _ (ts : List Task) (h : ℕ) (p : List Inversion) where
+module _ (ts : Set) (h : ℕ) (p : List Inversion) where
   -- what replay decides next, and at which instant
   pub record DecidesNext (a : Replaying) (t : ℕ) (c : Choice) : Type 0 where
     pub at-instant : NextInstant ts h (a .next) (a .free) t
@@ -89,7 +88,7 @@ module _ (ts : List Task) (h : ℕ) (p : List Inversion) where
 
   -- the starts that replay makes, none of them too late: it ends when all jobs have started
   pub data Replays : Replaying → List Entry → Type 0 where
-    ends : {a : Replaying} → ((i : ℕ) → i < length ts → jobs h (task ts i) ≤ slot (a .next) i) → Replays a []
+    ends : {a : Replaying} → ((i : ℕ) → i < length (ts .tasks) → jobs h (task ts i) ≤ slot (a .next) i) → Replays a []
     idles : {a : Replaying} {t : ℕ} {r : Idle} {behind : List Idle} {τ : List Entry} → a .unused ≡ r ∷ behind → DecidesNext a t (idle-for (r .length)) →
         Replays (after-idling a t r behind) τ → Replays a τ
     starts : {a : Replaying} {t i : ℕ} {τ : List Entry} → DecidesNext a t (start-task i) → (TooLate ts (a .next) i t → ⊥) →

@@ -6,9 +6,10 @@ use mathlib.Core.List.{List, [], _∷_, _++_}
 use mathlib.Core.Option.{Option, none, some}
 use Prim.Native.Nat.{ℕ, zero, suc, _+_, _*_, _-_}
 use lib.Dec.{ltb, leb, eqb}
-use lib.ListN.{length, take, replicate}
+use lib.ListN.{length, replicate}
 use Rattle.fields.specs.Body.{head₀, tail₀}
 use Rattle.rules.specs.declared.Task.{Task}
+use Rattle.rules.specs.declared.TaskSet.{TaskSet}
 use Rattle.rules.specs.declared.Entry.{Entry}
 use Rattle.rules.specs.declared.Refusal.{Refusal}
 use Rattle.rules.specs.declared.StartAnswer.the-variants.{Start, Refused}
@@ -16,7 +17,7 @@ use Rattle.rules.specs.declared.Offsets.{Offsets as OffsetsOf}
 use Rattle.rules.specs.declared.Dispatcher.{Dispatcher as State}
 use Rattle.rules.specs.declared.Turn.{Turn}
 use Rattle.rules.specs.Refusals.{Judged, gives, refuses, refusal}
-use Rattle.rules.specs.Tasks.{both, limits, largest-number, task, release, due, jobs, hyperperiod, memory-fault}
+use Rattle.rules.specs.Tasks.{Set, both, limits, largest-number, task, release, due, jobs, hyperperiod, memory-set, memory-fault}
 use Rattle.rules.specs.Priority.{slot, start-job, all-started, setting}
 use Rattle.rules.specs.Judging.{judge-tables}
 use Rattle.rules.specs.Operations.{Tabled, read-tables}
@@ -39,9 +40,40 @@ numbers s =
     ∷ s .now .idle
     ∷ (s .now .inversions ++ (s .first .idle ∷ s .first .inversions)))))
 
--- so many numbers has a state as it lies in memory, with sixteen slots in each of its lists
+-- where each part begins as a state lies in memory, with sixteen slots in each of its lists; the set, n and four numbers of each task, comes first
+abbrev pub set-numbers : ℕ
+set-numbers = 1 + 4 * limits .tasks
+
+abbrev pub next-at : ℕ
+next-at = set-numbers
+
+abbrev pub cycle-at : ℕ
+cycle-at = next-at + limits .tasks
+
+abbrev pub task-at : ℕ
+task-at = cycle-at + 1
+
+abbrev pub job-at : ℕ
+job-at = task-at + 1
+
+abbrev pub start-at : ℕ
+start-at = job-at + 1
+
+abbrev pub idle-at : ℕ
+idle-at = start-at + 1
+
+abbrev pub inversions-at : ℕ
+inversions-at = idle-at + 1
+
+abbrev pub first-idle-at : ℕ
+first-idle-at = inversions-at + limits .tasks
+
+abbrev pub first-inversions-at : ℕ
+first-inversions-at = first-idle-at + 1
+
+-- so many numbers are all
 abbrev pub number-count : ℕ
-number-count = 119
+number-count = first-inversions-at + limits .tasks
 
 pub record Shaped (s : State) : Type 0 where
   pub tasks : length (s .set .tasks) ≡ limits .tasks
@@ -77,8 +109,8 @@ abbrev pub is-stopped : State → Bool
 is-stopped s = all-zero (numbers s)
 
 -- the set of a state
-abbrev pub set-of : State → List Task
-set-of s = take (s .set .n) (s .set .tasks)
+abbrev pub set-of : State → Set
+set-of s = memory-set (s .set)
 
 -- 25 for the state: its set breaks 5 to 9; a next job number is above H/T; or the running job isn't the last one started of a task below n, or starts
 -- before release, or ends late
@@ -90,7 +122,7 @@ abbrev pub counts-possible : ℕ → List Task → List ℕ → Bool
 counts-possible h [] x = true
 counts-possible h (t ∷ ts) x = both (leb (head₀ x) (jobs h t)) (counts-possible h ts (tail₀ x))
 
-abbrev pub running-possible : List Task → State → Bool
+abbrev pub running-possible : Set → State → Bool
 running-possible ts s =
     both (ltb (s .running .task) (s .set .n))
     (both (eqb (slot (s .next) (s .running .task)) (suc (s .running .job)))
@@ -100,7 +132,7 @@ running-possible ts s =
 abbrev pub possible : State → Bool
 possible s =
     both (is-none (memory-fault (s .set)))
-    (both (counts-possible (hyperperiod (set-of s)) (set-of s) (s .next)) (running-possible (set-of s) s))
+    (both (counts-possible (hyperperiod (set-of s)) (set-of s .tasks) (s .next)) (running-possible (set-of s) s))
 
 -- the running job's absolute start, and the latest end that may be reported
 abbrev pub began : State → ℕ
@@ -161,7 +193,7 @@ at-cycle-start s = record {
 -- the next job of this cycle or, when all have started, the first of the next
 abbrev pub next-turn : List ℕ → State → Turn
 next-turn bytes s =
-    elim (all-started (hyperperiod (set-of s)) (set-of s) (s .next)) [
+    elim (all-started (hyperperiod (set-of s)) (set-of s .tasks) (s .next)) [
       | true ↦ elim (ltb (s .cycle) last-cycle) [
         | true ↦ start-next bytes s (suc (s .cycle)) (at-cycle-start s)
         | false ↦ refused (refusal 24 0) s
@@ -186,15 +218,19 @@ go-on bytes s end =
       ]
     ]
 
--- the state from which the first start is made: nothing has started, slots from n up are 0
+-- a set as it lies in memory, slots from n up are 0
+abbrev pub in-memory : Set → TaskSet
+in-memory ts = record { n = length (ts .tasks); tasks = ts .tasks ++ replicate (limits .tasks - length (ts .tasks)) zero-task }
+
+-- the state from which the first start is made: nothing has started
 abbrev pub fresh : Tabled → State
 fresh i = record {
-  set = record { n = length (i .tasks); tasks = i .tasks ++ replicate (limits .tasks - length (i .tasks)) zero-task };
+  set = in-memory (i .set);
   next = zeros;
   cycle = 0;
   running = record { task = 0; job = 0; start = 0 };
-  now = first-offsets (i .tasks) (i .tables);
-  first = first-offsets (i .tasks) (i .tables);
+  now = first-offsets (i .set) (i .tables);
+  first = first-offsets (i .set) (i .tables);
 }
 
 -- the first start is looked for from instant 0
@@ -207,7 +243,7 @@ begin-accepted bytes i (gives τ) = start-next bytes (fresh i) 0 (at-begin (fres
 begin-accepted bytes i (refuses r) = refused r stopped
 
 abbrev pub begin-framed : List ℕ → Judged Tabled → Turn
-begin-framed bytes (gives i) = begin-accepted bytes i (judge-tables (i .tasks) (i .tables))
+begin-framed bytes (gives i) = begin-accepted bytes i (judge-tables (i .set) (i .tables))
 begin-framed bytes (refuses r) = refused r stopped
 
 unfoldable pub begin : List ℕ → Turn

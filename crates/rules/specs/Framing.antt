@@ -7,16 +7,15 @@ use mathlib.Core.Option.{Option, none, some}
 use Prim.Native.Nat.{ℕ, zero, suc, _+_, _-_, _≤_, _<_}
 use lib.Dec.{ltb, leb, eqb}
 use lib.ListN.{length, getD, drop}
-use Rattle.rules.specs.declared.Task.{Task}
 use Rattle.rules.specs.declared.Entry.{Entry}
 use Rattle.rules.specs.declared.Refusal.{Refusal}
 use Rattle.rules.specs.declared.Place.{Place}
 use Rattle.rules.specs.declared.Layout.{Layout}
 use Rattle.rules.specs.Refusals.{Judged, gives, refuses, refusal, or-else, then, first, unless, Test, test, First}
-use Rattle.rules.specs.Tasks.{both, few-enough, limits}
+use Rattle.rules.specs.Tasks.{Set, both, few-enough, limits}
 use Rattle.rules.specs.Setting.{Tables}
 use Rattle.rules.specs.Priority.{slot}
-use Rattle.rules.specs.Marks.{Mark, TS, TK, SL, ID, PV, EN, Row, row, marks, size, mark-in, values}
+use Rattle.rules.specs.Marks.{Mark, TS, TK, SL, ID, PV, Class, head-class, task-class, option-class, listed-class, inversion-class, end-class, Row, row, marks, size, head-count-of, head-length-of, mark-in, values}
 use Rattle.rules.specs.Image.{to-task, to-entry, to-idle, to-inversion}
 
 -- before the first record
@@ -42,7 +41,7 @@ if-allowed kind s (some m) = elim (allowed kind s m) [ true ↦ some m | false �
 abbrev pub mark-at : ℕ → Place → List ℕ → Option Mark
 mark-at kind s bytes = if-allowed kind s (mark-in marks (getD bytes 0 0) (getD bytes 1 0))
 
--- TS's own tests, 3, 4 and 5, and EN's, 10
+-- the tests of a record of the class head, 3, 4 and 5, and of the class end, 10
 abbrev pub head-fault : ℕ → ℕ → List ℕ → Option Refusal
 head-fault kind index v =
     first (unless (eqb (slot v 0) 1) 3 index) (first (unless (eqb (slot v 1) kind) 4 index) (unless (few-enough (slot v 2)) 5 index))
@@ -50,7 +49,11 @@ head-fault kind index v =
 abbrev pub end-fault : ℕ → List ℕ → Option Refusal
 end-fault index v = unless (eqb (slot v 0) index) 10 index
 
--- what is known after a record: TS with n, a TK, an SL or ID, a PV
+-- the least rank of a record behind one: its own, or the next where it stands at most once
+abbrev pub least-behind : Row → ℕ
+least-behind r = elim (r .once) [ true ↦ suc (r .rank) | false ↦ r .rank ]
+
+-- what is known after a record: TS with n, a TK, a record between the tasks and EN with what is counted then
 abbrev pub rank-due : ℕ → ℕ
 rank-due zero = 2
 rank-due (suc due) = 1
@@ -59,38 +62,26 @@ abbrev pub tasks-due : ℕ → ℕ → ℕ → ℕ → Place
 tasks-due index offset due n =
     record { index = index; offset = offset; rank = rank-due due; due = due; tasks = n; listed = 0; inversions = 0 }
 
-abbrev pub after-head : Place → List ℕ → Place
-after-head s v = tasks-due (suc (s .index)) (s .offset + size TS) (slot v 2) (slot v 2)
+abbrev pub after-head : Mark → Place → List ℕ → Place
+after-head m s v = tasks-due (suc (s .index)) (s .offset + size m) (slot v 2) (slot v 2)
 
-abbrev pub after-task : Place → Place
-after-task s = tasks-due (suc (s .index)) (s .offset + size TK) (s .due - 1) (s .tasks)
+abbrev pub after-task : Mark → Place → Place
+after-task m s = tasks-due (suc (s .index)) (s .offset + size m) (s .due - 1) (s .tasks)
 
-abbrev pub after-listed : Mark → Place → Place
-after-listed m s =
+abbrev pub after-later : Mark → Place → ℕ → ℕ → Place
+after-later m s listed inversions =
     record {
       index = suc (s .index);
       offset = s .offset + size m;
-      rank = row m .rank;
+      rank = least-behind (row m);
       due = s .due;
       tasks = s .tasks;
-      listed = suc (s .listed);
-      inversions = s .inversions;
+      listed = listed;
+      inversions = inversions;
     }
 
-abbrev pub after-inversion : Place → Place
-after-inversion s =
-    record {
-      index = suc (s .index);
-      offset = s .offset + size PV;
-      rank = row PV .rank;
-      due = s .due;
-      tasks = s .tasks;
-      listed = s .listed;
-      inversions = suc (s .inversions);
-    }
-
-abbrev pub layout-at : Place → Layout
-layout-at s = record { tasks = s .tasks; listed = s .listed; inversions = s .inversions; ended = s .offset + size EN }
+abbrev pub layout-at : Mark → Place → Layout
+layout-at m s = record { tasks = s .tasks; listed = s .listed; inversions = s .inversions; ended = s .offset + size m }
 
 -- a whole record with an allowed mark: framing goes on behind it, or ends
 pub data Next : Type 0 where
@@ -101,13 +92,17 @@ abbrev pub checked : Option Refusal → Next → Next
 checked none next = next
 checked (some r) next = ends (refuses r)
 
+-- by the class of its mark; a record of the class option counts in the index alone, and its own tests and its value have their place in that line
+abbrev pub after-as : Class → ℕ → Place → Mark → List ℕ → Next
+after-as head-class kind s m v = checked (head-fault kind (s .index) v) (goes-on (after-head m s v))
+after-as task-class kind s m v = goes-on (after-task m s)
+after-as option-class kind s m v = goes-on (after-later m s (s .listed) (s .inversions))
+after-as listed-class kind s m v = goes-on (after-later m s (suc (s .listed)) (s .inversions))
+after-as inversion-class kind s m v = goes-on (after-later m s (s .listed) (suc (s .inversions)))
+after-as end-class kind s m v = checked (end-fault (s .index) v) (ends (gives (layout-at m s)))
+
 abbrev pub after : ℕ → Place → Mark → List ℕ → Next
-after kind s TS v = checked (head-fault kind (s .index) v) (goes-on (after-head s v))
-after kind s TK v = goes-on (after-task s)
-after kind s SL v = goes-on (after-listed SL s)
-after kind s ID v = goes-on (after-listed ID s)
-after kind s PV v = goes-on (after-inversion s)
-after kind s EN v = checked (end-fault (s .index) v) (ends (gives (layout-at s)))
+after kind s m v = after-as (row m .class) kind s m v
 
 -- record by record, in enough turns
 abbrev pub frame-from : ℕ → ℕ → Place → List ℕ → Judged Layout
@@ -130,7 +125,7 @@ frame-records kind s bytes = frame-from (suc (length bytes)) kind s bytes
 
 -- the index of EN, and that nothing follows it
 abbrev pub index-of-end : Layout → ℕ
-index-of-end l = suc (l .tasks + (l .listed + l .inversions))
+index-of-end l = head-count-of (l .tasks) + (l .listed + l .inversions)
 
 abbrev pub nothing-follows : List ℕ → Layout → Bool
 nothing-follows bytes l = leb (length bytes) (l .ended)
@@ -147,15 +142,22 @@ pub record Allowed (kind : ℕ) (s : Place) (bytes : List ℕ) (m : Mark) : Type
   pub of-kind : in-kind kind (row m) ≡ true
   pub its-turn : may-follow (s .rank) (row m .rank) ≡ true
 
+-- a mark of a class is allowed, and its record breaks a rule
+pub record Breaks (kind : ℕ) (s : Place) (bytes : List ℕ) (c : Class) (Broken : Mark → List ℕ → Type 0) : Type 0 where
+  pub mark : Mark
+  pub may : Allowed kind s bytes mark
+  pub of-class : row mark .class ≡ c
+  pub broken : Broken mark (values mark bytes)
+
 abbrev pub framing-tests : ℕ → Place → List ℕ → List Test
 framing-tests kind s bytes =
     test 1 (s .index) (length bytes < 2)
     ∷ test 2 (s .index) ((m : Mark) → Allowed kind s bytes m → ⊥)
     ∷ test 1 (s .index) ((m : Mark) × Allowed kind s bytes m × (length bytes < size m))
-    ∷ test 3 (s .index) (Allowed kind s bytes TS × (slot (values TS bytes) 0 ≡ 1 → ⊥))
-    ∷ test 4 (s .index) (Allowed kind s bytes TS × (slot (values TS bytes) 1 ≡ kind → ⊥))
-    ∷ test 5 (s .index) (Allowed kind s bytes TS × ((1 ≤ slot (values TS bytes) 2) × (slot (values TS bytes) 2 ≤ limits .tasks) → ⊥))
-    ∷ test 10 (s .index) (Allowed kind s bytes EN × ((slot (values EN bytes) 0 ≡ s .index) × (drop (size EN) bytes ≡ []) → ⊥))
+    ∷ test 3 (s .index) (Breaks kind s bytes head-class (λ m v. slot v 0 ≡ 1 → ⊥))
+    ∷ test 4 (s .index) (Breaks kind s bytes head-class (λ m v. slot v 1 ≡ kind → ⊥))
+    ∷ test 5 (s .index) (Breaks kind s bytes head-class (λ m v. (1 ≤ slot v 2) × (slot v 2 ≤ limits .tasks) → ⊥))
+    ∷ test 10 (s .index) (Breaks kind s bytes end-class (λ m v. (slot v 0 ≡ s .index) × (drop (size m) bytes ≡ []) → ⊥))
     ∷ []
 
 -- what refuses an image from a place on: a test of this record, or, where it passes them all, a later record
@@ -174,10 +176,10 @@ behind m zero bytes = bytes
 behind m (suc many) bytes = behind m many (drop (size m) bytes)
 
 abbrev pub behind-tasks : Layout → List ℕ → List ℕ
-behind-tasks l bytes = behind TK (l .tasks) (drop (size TS) bytes)
+behind-tasks l bytes = drop (head-length-of (l .tasks)) bytes
 
-abbrev pub tasks-in : Layout → List ℕ → List Task
-tasks-in l bytes = map to-task (read TK (l .tasks) (drop (size TS) bytes))
+abbrev pub set-in : Layout → List ℕ → Set
+set-in l bytes = record { tasks = map to-task (read TK (l .tasks) (drop (size TS) bytes)) }
 
 abbrev pub entries-in : Layout → List ℕ → List Entry
 entries-in l bytes = map to-entry (read SL (l .listed) (behind-tasks l bytes))

@@ -5,7 +5,6 @@ use mathlib.Core.List.{List, [], _∷_}
 use mathlib.Core.Option.{Option, none, some}
 use Prim.Native.Nat.{ℕ, suc, _+_, _≤_, _<_}
 use lib.ListN.{length}
-use Rattle.rules.specs.declared.Task.{Task}
 use Rattle.rules.specs.declared.Idle.{Idle}
 use Rattle.rules.specs.declared.Inversion.{Inversion}
 use Rattle.rules.specs.declared.Refusal.{Refusal}
@@ -13,7 +12,7 @@ use Rattle.rules.specs.declared.StartAnswer.{StartAnswer}
 use Rattle.rules.specs.declared.StartAnswer.the-variants.{Start, Refused}
 use Rattle.rules.specs.declared.Dispatcher.{Dispatcher as State}
 use Rattle.rules.specs.Refusals.{Test, test}
-use Rattle.rules.specs.Tasks.{limits, task, release, due, jobs, hyperperiod, GoodSet}
+use Rattle.rules.specs.Tasks.{Set, limits, task, release, due, jobs, hyperperiod, GoodSet}
 use Rattle.rules.specs.Priority.{slot}
 use Rattle.rules.specs.Decision.{Choice, idle-for, start-task}
 use Rattle.rules.specs.DecisionRule.{NextInstant, Decides, TooLate}
@@ -30,7 +29,7 @@ pub record PossibleState (s : State) : Type 0 where
   pub few-tasks : s .set .n ≤ limits .tasks
   pub h : ℕ
   pub good-set : GoodSet (set-of s) h
-  pub counts : (i : ℕ) → i < length (set-of s) → slot (s .next) i ≤ jobs h (task (set-of s) i)
+  pub counts : (i : ℕ) → i < length (set-of s .tasks) → slot (s .next) i ≤ jobs h (task (set-of s) i)
   pub a-task : s .running .task < s .set .n
   pub last-started : slot (s .next) (s .running .task) ≡ suc (s .running .job)
   pub released : release (task (set-of s) (s .running .task)) (s .running .job) ≤ s .running .start
@@ -40,20 +39,20 @@ pub record PossibleState (s : State) : Type 0 where
 pub record CycleDone (s : State) : Type 0 where
   pub h : ℕ
   pub good-set : GoodSet (set-of s) h
-  pub done : (i : ℕ) → i < length (set-of s) → jobs h (task (set-of s) i) ≤ slot (s .next) i
+  pub done : (i : ℕ) → i < length (set-of s .tasks) → jobs h (task (set-of s) i) ≤ slot (s .next) i
 
 -- the decision by the records that offsets show: the first unused idle record at the ID offset, a task's inversion record at the task's
-abbrev pub DecidesAt : List Task → ℕ → Source → Standing (List ℕ) → ℕ → Choice → Type 0
+abbrev pub DecidesAt : Set → ℕ → Source → Standing (List ℕ) → ℕ → Choice → Type 0
 DecidesAt ts h S a t c =
     Decides ts h (λ (r : Idle). (after : ℕ) × (S .idle-shown (a .idle) ≡ shows r after))
     (λ (r : Inversion). (after : ℕ) × (S .inversion-shown (slot (a .offsets) (r .task)) ≡ shows r after)) (a .next) t c
 
 -- 25 for bytes: a decision meets an offset that shows nothing that may stand there, or a job that is too late, at once or after idling
-module _ (ts : List Task) (h : ℕ) (S : Source) where
+module _ (ts : Set) (h : ℕ) (S : Source) where
   -- nothing that may stand there: at the ID offset, or at that of a task below n
   pub data Unreadable (a : Standing (List ℕ)) : Type 0 where
     at-idle : S .idle-shown (a .idle) ≡ unreadable → Unreadable a
-    at-task : {i : ℕ} → i < length ts → S .inversion-shown (slot (a .offsets) i) ≡ unreadable → Unreadable a
+    at-task : {i : ℕ} → i < length (ts .tasks) → S .inversion-shown (slot (a .offsets) i) ≡ unreadable → Unreadable a
 
   -- what is decided next, and at which instant: all current offsets are read at every decision
   pub record DecidesFrom (a : Standing (List ℕ)) (t : ℕ) (c : Choice) : Type 0 where

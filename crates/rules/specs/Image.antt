@@ -7,10 +7,10 @@ use Rattle.rules.specs.declared.Task.{Task}
 use Rattle.rules.specs.declared.Entry.{Entry}
 use Rattle.rules.specs.declared.Idle.{Idle}
 use Rattle.rules.specs.declared.Inversion.{Inversion}
-use Rattle.rules.specs.Tasks.{limits}
+use Rattle.rules.specs.Tasks.{Set, limits, largest-number}
 use Rattle.rules.specs.Setting.{Tables}
 use Rattle.rules.specs.Priority.{slot}
-use Rattle.rules.specs.Marks.{Mark, TS, TK, SL, ID, PV, EN, row}
+use Rattle.rules.specs.Marks.{Mark, TS, TK, SL, ID, PV, EN, row, head-count-of, head-length-of}
 
 -- a record: a mark, and the values of its fields
 pub record Record : Type 0 where
@@ -58,29 +58,36 @@ abbrev pub records : Mark → List (List ℕ) → List Record
 records m [] = []
 records m (v ∷ vs) = record-of m v ∷ records m vs
 
--- TS, with edition 1, the kind and n, then n TK
-abbrev pub set-records : ℕ → List Task → List Record
-set-records kind ts = record-of TS (1 ∷ kind ∷ length ts ∷ []) ∷ records TK (map of-task ts)
+-- the head: TS, with edition 1, the kind and n, then n TK
+abbrev pub head-records : ℕ → Set → List Record
+head-records kind ts = record-of TS (1 ∷ kind ∷ length (ts .tasks) ∷ []) ∷ records TK (map of-task (ts .tasks))
+
+-- how many records the head has, and how many bytes
+abbrev pub head-count : Set → ℕ
+head-count ts = head-count-of (length (ts .tasks))
+
+abbrev pub head-length : Set → ℕ
+head-length ts = head-length-of (length (ts .tasks))
 
 -- EN, with the number of records before it
 abbrev pub end-record : ℕ → List Record
 end-record before = record-of EN (before ∷ []) ∷ []
 
--- kind 1: TS, n TK, SL records, EN
-abbrev pub timetable-records : List Task → List Entry → List Record
-timetable-records ts τ = set-records 1 ts ++ (records SL (map of-entry τ) ++ end-record (suc (length ts + length τ)))
+-- kind 1: the head, SL records, EN
+abbrev pub timetable-records : Set → List Entry → List Record
+timetable-records ts τ = head-records 1 ts ++ (records SL (map of-entry τ) ++ end-record (head-count ts + length τ))
 
--- kind 2: TS, n TK, ID records, PV records, EN
-abbrev pub table-records : List Task → Tables → List Record
+-- kind 2: the head, ID records, PV records, EN
+abbrev pub table-records : Set → Tables → List Record
 table-records ts X =
-    set-records 2 ts
+    head-records 2 ts
     ++ (records ID (map of-idle (X .idles))
-    ++ (records PV (map of-inversion (X .inversions)) ++ end-record (suc (length ts + (length (X .idles) + length (X .inversions))))))
+    ++ (records PV (map of-inversion (X .inversions)) ++ end-record (head-count ts + (length (X .idles) + length (X .inversions)))))
 
-abbrev pub timetable-image : List Task → List Entry → List ℕ
+abbrev pub timetable-image : Set → List Entry → List ℕ
 timetable-image ts τ = image (timetable-records ts τ)
 
-abbrev pub table-image : List Task → Tables → List ℕ
+abbrev pub table-image : Set → Tables → List ℕ
 table-image ts X = image (table-records ts X)
 
 -- each list of values fits its fields
@@ -88,22 +95,22 @@ abbrev pub Each : List ℕ → List (List ℕ) → Type 0
 Each widths [] = Unit {0}
 Each widths (v ∷ vs) = Fit widths v × Each widths vs
 
--- what an EN record can count
+-- an EN record counts below this
 abbrev pub countable : ℕ
-countable = 4294967296
+countable = suc largest-number
 
 -- what can be written: 1 to 16 tasks, every value in the range of its field, and no more records than EN can count
-pub record WritableTimetable (ts : List Task) (τ : List Entry) : Type 0 where
-  pub some-tasks : 1 ≤ length ts
-  pub few-tasks : length ts ≤ limits .tasks
-  pub tasks-fit : Each (row TK .widths) (map of-task ts)
+pub record WritableTimetable (ts : Set) (τ : List Entry) : Type 0 where
+  pub some-tasks : 1 ≤ length (ts .tasks)
+  pub few-tasks : length (ts .tasks) ≤ limits .tasks
+  pub tasks-fit : Each (row TK .widths) (map of-task (ts .tasks))
   pub entries-fit : Each (row SL .widths) (map of-entry τ)
-  pub count-fits : suc (length ts + length τ) < countable
+  pub count-fits : head-count ts + length τ < countable
 
-pub record WritableTables (ts : List Task) (X : Tables) : Type 0 where
-  pub some-tasks : 1 ≤ length ts
-  pub few-tasks : length ts ≤ limits .tasks
-  pub tasks-fit : Each (row TK .widths) (map of-task ts)
+pub record WritableTables (ts : Set) (X : Tables) : Type 0 where
+  pub some-tasks : 1 ≤ length (ts .tasks)
+  pub few-tasks : length (ts .tasks) ≤ limits .tasks
+  pub tasks-fit : Each (row TK .widths) (map of-task (ts .tasks))
   pub idles-fit : Each (row ID .widths) (map of-idle (X .idles))
   pub inversions-fit : Each (row PV .widths) (map of-inversion (X .inversions))
-  pub count-fits : suc (length ts + (length (X .idles) + length (X .inversions))) < countable
+  pub count-fits : head-count ts + (length (X .idles) + length (X .inversions)) < countable

@@ -6,24 +6,23 @@ use mathlib.Core.List.{List, [], _∷_, _++_}
 use Prim.Native.Nat.{ℕ, zero, suc, _+_, _-_, max, _≤_, _<_}
 use lib.Dec.{ltb, leb, eqb}
 use lib.ListN.{length, take}
-use Rattle.rules.specs.declared.Task.{Task}
 use Rattle.rules.specs.declared.Entry.{Entry}
 use Rattle.rules.specs.declared.Idle.{Idle}
 use Rattle.rules.specs.declared.Inversion.{Inversion}
-use Rattle.rules.specs.Tasks.{task, release, jobs}
+use Rattle.rules.specs.Tasks.{Set, task, release, jobs}
 use Rattle.rules.specs.Timetable.{entry-at, count, job-at, end-at}
 use Rattle.rules.specs.Setting.{Setting, Act, run, wait, Tables, instant}
 
 -- f, the end of the entry before entry j, 0 for the first
-abbrev pub end-before : List Task → List Entry → ℕ → ℕ
+abbrev pub end-before : Set → List Entry → ℕ → ℕ
 end-before ts τ zero = 0
 end-before ts τ (suc j) = end-at ts τ j
 
 -- as the document defines them, for entry j of a timetable
-module _ (ts : List Task) (h : ℕ) (τ : List Entry) where
+module _ (ts : Set) (h : ℕ) (τ : List Entry) where
   -- job k of task i has not yet started before entry j
   pub record NotStarted (j i k : ℕ) : Type 0 where
-    pub a-task : i < length ts
+    pub a-task : i < length (ts .tasks)
     pub a-job : k < jobs h (task ts i)
     pub not-before : count i (take j τ) ≤ k
 

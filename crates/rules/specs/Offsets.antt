@@ -4,20 +4,19 @@ use mathlib.Core.Bool.{Bool, true, false}
 use mathlib.Core.List.{List, [], _∷_, _++_}
 use mathlib.Core.Option.{Option, none, some}
 use Prim.Native.Nat.{ℕ, zero, suc, _+_, _*_, _-_}
-use lib.Dec.{ltb, leb, eqb}
+use lib.Dec.{ltb, leb}
 use lib.ListN.{length, getD, drop, replicate}
 use Rattle.fields.specs.Body.{head₀, tail₀}
-use Rattle.rules.specs.declared.Task.{Task}
 use Rattle.rules.specs.declared.Idle.{Idle}
 use Rattle.rules.specs.declared.Inversion.{Inversion}
 use Rattle.rules.specs.declared.Offsets.{Offsets as OffsetsOf}
-use Rattle.rules.specs.Tasks.{both, hyperperiod, limits, largest-number}
+use Rattle.rules.specs.Tasks.{Set, both, hyperperiod, limits, largest-number}
 use Rattle.rules.specs.Setting.{Setting, Tables}
 use Rattle.rules.specs.Priority.{slot}
-use Rattle.rules.specs.Decision.{Effect, idles-till, starts, waits-till, stops, step, idle-at}
+use Rattle.rules.specs.Decision.{Effect, idles-till, starts, waits-till, stops, step, idle-at, is-of}
 use Rattle.rules.specs.Judging.{idle-in-range, inversion-in-range}
 use Rattle.rules.specs.Marks.{Mark, TS, TK, SL, ID, PV, EN, marks, size, mark-in, values}
-use Rattle.rules.specs.Image.{Record, record-of, to-idle, to-inversion}
+use Rattle.rules.specs.Image.{Record, record-of, to-idle, to-inversion, head-length}
 
 -- what an offset shows: nothing that may stand there, no record of the kind looked for, or a record and the offset after it
 pub data Shown (A : Type 0) : Type 0 where
@@ -48,7 +47,7 @@ shown-if true shown = shown
 shown-if false shown = unreadable
 
 -- at the ID offset stands a whole ID, PV or EN, at a task's a whole PV or EN; a record outside its own range is unreadable
-module _ (ts : List Task) (o : ℕ) where
+module _ (ts : Set) (o : ℕ) where
   abbrev pub idle-by : Mark → List ℕ → Shown Idle
   idle-by TS v = unreadable
   idle-by TK v = unreadable
@@ -74,12 +73,8 @@ module _ (ts : List Task) (o : ℕ) where
   inversion-in (some r) = inversion-by (r .mark) (r .values)
 
 -- an image as a source
-abbrev pub lent : List ℕ → List Task → Source
+abbrev pub lent : List ℕ → Set → Source
 lent bytes ts = record { idle-shown = λ o. idle-in ts o (record-at bytes o); inversion-shown = λ o. inversion-in ts o (record-at bytes o) }
-
--- is it the record of job k of task i
-abbrev pub is-of : Inversion → ℕ → ℕ → Bool
-is-of r i k = both (eqb (r .task) i) (eqb (r .job) k)
 
 -- the delay that a task's offset shows for its next job, and the offset after that job has started
 abbrev pub own-delay : Shown Inversion → ℕ → ℕ → Option ℕ
@@ -176,24 +171,21 @@ module _ (G : Setting) (S : Source) where
   abbrev pub moved : G .Started → List ℕ → ℕ → List ℕ
   moved x offsets i = put-slot offsets i (past-own (S .inversion-shown (slot offsets i)) i (G .next-job x i) (slot offsets i))
 
--- offsets as at a cycle's start: the first record behind the tasks, and for each task the first PV of its number or a higher one, else EN
-abbrev pub tables-offset : List Task → ℕ
-tables-offset ts = size TS + length ts * size TK
-
+-- offsets as at a cycle's start: the first record behind the head, and for each task the first PV of its number or a higher one, else EN
 abbrev pub lower-before : ℕ → List Inversion → ℕ
 lower-before i [] = 0
 lower-before i (r ∷ p) = elim (ltb (r .task) i) [ true ↦ suc (lower-before i p) | false ↦ 0 ]
 
-abbrev pub inversion-offset : List Task → Tables → ℕ → ℕ
-inversion-offset ts X i = tables-offset ts + length (X .idles) * size ID + lower-before i (X .inversions) * size PV
+abbrev pub inversion-offset : Set → Tables → ℕ → ℕ
+inversion-offset ts X i = head-length ts + length (X .idles) * size ID + lower-before i (X .inversions) * size PV
 
-abbrev pub inversion-offsets : List Task → Tables → ℕ → ℕ → List ℕ
+abbrev pub inversion-offsets : Set → Tables → ℕ → ℕ → List ℕ
 inversion-offsets ts X i zero = []
 inversion-offsets ts X i (suc many) = inversion-offset ts X i ∷ inversion-offsets ts X (suc i) many
 
 -- slots from n up begin at 0
-abbrev pub first-offsets : List Task → Tables → OffsetsOf
+abbrev pub first-offsets : Set → Tables → OffsetsOf
 first-offsets ts X = record {
-  idle = tables-offset ts;
-  inversions = inversion-offsets ts X 0 (length ts) ++ replicate (limits .tasks - length ts) 0;
+  idle = head-length ts;
+  inversions = inversion-offsets ts X 0 (length (ts .tasks)) ++ replicate (limits .tasks - length (ts .tasks)) 0;
 }

@@ -1,43 +1,43 @@
 -- The operations on images: document 01's checking, deriving and rebuilding, for any bytes and any lent output. Assumes nothing.
 use mathlib.Core.Path.{_≡_}
-use mathlib.Core.List.{List, _∷_, _++_}
+use mathlib.Core.List.{List, _++_}
 use Prim.Native.Nat.{ℕ}
 use lib.Dec.{leb}
 use lib.ListN.{length, drop}
 use Rattle.rules.specs.declared.Layout.{Layout}
-use Rattle.rules.specs.declared.Task.{Task}
 use Rattle.rules.specs.declared.Entry.{Entry}
 use Rattle.rules.specs.declared.CheckAnswer.{CheckAnswer}
 use Rattle.rules.specs.declared.CheckAnswer.the-variants as check-case
 use Rattle.rules.specs.declared.MakeAnswer.{MakeAnswer}
 use Rattle.rules.specs.declared.MakeAnswer.the-variants as make-case
+use Rattle.rules.specs.Tasks.{Set}
 use Rattle.rules.specs.Refusals.{Judged, gives, refuses, or-else, then, unless}
 use Rattle.rules.specs.Setting.{Tables}
 use Rattle.rules.specs.Judging.{judge-timetable, judge-tables}
 use Rattle.rules.specs.Image.{timetable-image, table-image}
-use Rattle.rules.specs.Framing.{frame, tasks-in, entries-in, tables-in}
+use Rattle.rules.specs.Framing.{frame, set-in, entries-in, tables-in}
 
 -- what a timetable image holds, and what a table image holds
 pub record Timed : Type 0 where
-  pub tasks : List Task
+  pub set : Set
   pub entries : List Entry
 
 pub record Tabled : Type 0 where
-  pub tasks : List Task
+  pub set : Set
   pub tables : Tables
 
 abbrev pub read-timetable : List ℕ → Judged Timed
-read-timetable bytes = then (frame 1 bytes) (λ (l : Layout). gives (record { tasks = tasks-in l bytes; entries = entries-in l bytes }))
+read-timetable bytes = then (frame 1 bytes) (λ (l : Layout). gives (record { set = set-in l bytes; entries = entries-in l bytes }))
 
 abbrev pub read-tables : List ℕ → Judged Tabled
-read-tables bytes = then (frame 2 bytes) (λ (l : Layout). gives (record { tasks = tasks-in l bytes; tables = tables-in l bytes }))
+read-tables bytes = then (frame 2 bytes) (λ (l : Layout). gives (record { set = set-in l bytes; tables = tables-in l bytes }))
 
 -- a timetable judged gives the set with its tables, tables judged give the set with the rebuilt timetable
 abbrev pub derive-from : Timed → Judged Tabled
-derive-from i = then (judge-timetable (i .tasks) (i .entries)) (λ (X : Tables). gives (record { tasks = i .tasks; tables = X }))
+derive-from i = then (judge-timetable (i .set) (i .entries)) (λ (X : Tables). gives (record { set = i .set; tables = X }))
 
 abbrev pub rebuild-from : Tabled → Judged Timed
-rebuild-from i = then (judge-tables (i .tasks) (i .tables)) (λ (τ : List Entry). gives (record { tasks = i .tasks; entries = τ }))
+rebuild-from i = then (judge-tables (i .set) (i .tables)) (λ (τ : List Entry). gives (record { set = i .set; entries = τ }))
 
 abbrev pub derived : List ℕ → Judged Tabled
 derived bytes = then (read-timetable bytes) derive-from
@@ -61,10 +61,10 @@ abbrev pub into : ℕ → List ℕ → Judged (List ℕ)
 into room result = or-else (unless (leb (length result) room) 20 0) (gives result)
 
 abbrev pub write-tables : ℕ → Tabled → Judged (List ℕ)
-write-tables room i = into room (table-image (i .tasks) (i .tables))
+write-tables room i = into room (table-image (i .set) (i .tables))
 
 abbrev pub write-timetable : ℕ → Timed → Judged (List ℕ)
-write-timetable room i = into room (timetable-image (i .tasks) (i .entries))
+write-timetable room i = into room (timetable-image (i .set) (i .entries))
 
 -- deriving turns a kind 1 image into its kind 2 image, rebuilding the reverse
 abbrev pub derived-image : ℕ → List ℕ → Judged (List ℕ)

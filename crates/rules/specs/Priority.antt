@@ -7,7 +7,7 @@ use lib.Dec.{ltb, leb}
 use lib.ListN.{length}
 use Rattle.fields.specs.Body.{head₀, tail₀}
 use Rattle.rules.specs.declared.Task.{Task}
-use Rattle.rules.specs.Tasks.{both, task, release, due, jobs, hyperperiod}
+use Rattle.rules.specs.Tasks.{Set, both, task, release, due, jobs, hyperperiod}
 use Rattle.rules.specs.Timetable.{pick}
 use Rattle.rules.specs.Setting.{Setting, Act, run, lowest}
 
@@ -45,7 +45,7 @@ abbrev pub run-lowest : ℕ → Option ℕ → Act
 run-lowest n none = run n
 run-lowest n (some i) = run i
 
-module _ (ts : List Task) (h : ℕ) where
+module _ (ts : Set) (h : ℕ) where
   -- has the task a job left
   abbrev pub is-left : List ℕ → ℕ → Bool
   is-left x i = ltb (slot x i) (jobs h (task ts i))
@@ -57,7 +57,7 @@ module _ (ts : List Task) (h : ℕ) where
   -- the rules of an entry: 11 to 15, in that order
   abbrev pub entry-breaks : List ℕ → ℕ → ℕ → ℕ → ℕ
   entry-breaks x f i s =
-      pick (ltb i (length ts))
+      pick (ltb i (length (ts .tasks)))
       (pick (is-left x i)
       (pick (leb (release (task ts i) (slot x i)) s)
       (pick (leb f s) (pick (leb (s + task ts i .time) (due (task ts i) (slot x i))) 0 15) 14)
@@ -67,17 +67,17 @@ module _ (ts : List Task) (h : ℕ) where
 
   -- rule (3): the lowest waiting task starts
   abbrev pub by-priority : List ℕ → ℕ → Act
-  by-priority x t = run-lowest (length ts) (lowest (length ts) (waiting x t))
+  by-priority x t = run-lowest (length (ts .tasks)) (lowest (length (ts .tasks)) (waiting x t))
 
   abbrev pub setting-of : Setting
   setting-of = record {
     Started = List ℕ;
-    tasks = length ts;
+    tasks = length (ts .tasks);
     next-job = slot;
     release = λ i k. release (task ts i) k;
-    all-started = all-started h ts;
+    all-started = all-started h (ts .tasks);
     start-job = start-job;
-    least-release = least-release h ts;
+    least-release = least-release h (ts .tasks);
     free-after = λ i s. s + task ts i .time;
     breaks = entry-breaks;
     breaks-in-replay = λ x f i s. late (entry-breaks x f i s);
@@ -87,5 +87,5 @@ module _ (ts : List Task) (h : ℕ) where
   }
 
 -- the setting of a set
-abbrev pub setting : List Task → Setting
+abbrev pub setting : Set → Setting
 setting ts = setting-of ts (hyperperiod ts)

@@ -2,16 +2,15 @@
 -- refuses an image, and what refuses to make one of the other. Assumes nothing.
 use mathlib.Core.Path.{_≡_}
 use mathlib.Core.Logic.{_↔_}
-use mathlib.Core.List.{List, _∷_, _++_, List·Memᴰ}
+use mathlib.Core.List.{List, _++_, List·Memᴰ}
 use mathlib.Core.Option.{some}
 use Prim.Native.Nat.{ℕ, _<_}
 use lib.ListN.{length}
-use Rattle.rules.specs.declared.Task.{Task}
 use Rattle.rules.specs.declared.Entry.{Entry}
 use Rattle.rules.specs.declared.Inversion.{Inversion}
 use Rattle.rules.specs.declared.Refusal.{Refusal}
 use Rattle.rules.specs.Refusals.{gives, refusal, First}
-use Rattle.rules.specs.Tasks.{GoodSet, hyperperiod, set-tests}
+use Rattle.rules.specs.Tasks.{Set, GoodSet, hyperperiod, set-tests}
 use Rattle.rules.specs.Timetable.{ValidTimetable}
 use Rattle.rules.specs.Setting.{Tables}
 use Rattle.rules.specs.Irregularities.{ForcedIdles, IsInversion}
@@ -21,20 +20,20 @@ use Rattle.rules.specs.Framing.{RefusesFraming, start-place}
 use Rattle.rules.specs.Operations.{Timed, Tabled, read-timetable, read-tables}
 
 -- the tables of a timetable: its forced idles in the order of entries; its inversions and no others, with pairs strictly rising
-pub record HasTables (ts : List Task) (h : ℕ) (τ : List Entry) (X : Tables) : Type 0 where
+pub record HasTables (ts : Set) (h : ℕ) (τ : List Entry) (X : Tables) : Type 0 where
   pub its-idles : ForcedIdles ts h τ 0 (X .idles)
   pub its-inversions : (r : Inversion) → List·Memᴰ r (X .inversions) ↔ IsInversion ts h τ r
   pub pairs-rise : (j : ℕ) → j < length (X .inversions) → PairRises (X .inversions) j
 
 -- the image of a good set and a valid timetable
-pub record TimetableImage (bytes : List ℕ) (ts : List Task) (τ : List Entry) : Type 0 where
+pub record TimetableImage (bytes : List ℕ) (ts : Set) (τ : List Entry) : Type 0 where
   pub h : ℕ
   pub good : GoodSet ts h
   pub valid : ValidTimetable ts h τ
   pub is : bytes ≡ timetable-image ts τ
 
 -- the image of a good set and of the tables that a valid timetable has
-pub record TableImage (bytes : List ℕ) (ts : List Task) (τ : List Entry) : Type 0 where
+pub record TableImage (bytes : List ℕ) (ts : Set) (τ : List Entry) : Type 0 where
   pub h : ℕ
   pub tables : Tables
   pub good : GoodSet ts h
@@ -46,19 +45,19 @@ pub record TableImage (bytes : List ℕ) (ts : List Task) (τ : List Entry) : Ty
 pub data RefusesTimetableImage (bytes : List ℕ) : Refusal → Type 1 where
   by-framing : {r : Refusal} → RefusesFraming 1 start-place bytes r → RefusesTimetableImage bytes r
   by-a-test : {r : Refusal} {i : Timed} → read-timetable bytes ≡ gives i →
-      First (set-tests (i .tasks) ++ timetable-tests (i .tasks) (hyperperiod (i .tasks)) (i .entries)) (some r) → RefusesTimetableImage bytes r
+      First (set-tests (i .set) ++ timetable-tests (i .set) (hyperperiod (i .set)) (i .entries)) (some r) → RefusesTimetableImage bytes r
 
 -- what refuses a table image: framing; or else the set, then the records, then a late job in replay, then a difference
 pub data RefusesTableImage (bytes : List ℕ) : Refusal → Type 1 where
   by-framing : {r : Refusal} → RefusesFraming 2 start-place bytes r → RefusesTableImage bytes r
-  by-its-tables : {r : Refusal} {i : Tabled} → read-tables bytes ≡ gives i → RefusesTables (i .tasks) (i .tables) r → RefusesTableImage bytes r
+  by-its-tables : {r : Refusal} {i : Tabled} → read-tables bytes ≡ gives i → RefusesTables (i .set) (i .tables) r → RefusesTableImage bytes r
 
 -- the images of both kinds of one timetable: its own, and that of its tables
 pub record BothImages (timetable-bytes table-bytes : List ℕ) : Type 0 where
-  pub tasks : List Task
+  pub set : Set
   pub entries : List Entry
-  pub timetable : TimetableImage timetable-bytes tasks entries
-  pub tables : TableImage table-bytes tasks entries
+  pub timetable : TimetableImage timetable-bytes set entries
+  pub tables : TableImage table-bytes set entries
 
 -- what refuses deriving into so much room: what refuses the image; or, last, 20, a result that is longer
 pub data RefusesDeriving (bytes : List ℕ) (room : ℕ) : Refusal → Type 1 where

@@ -1,7 +1,7 @@
 -- The setting that timetables, tables and replay go by. The theory is stated over it: over a baseline that starts a waiting job or waits for a
 -- later instant, over the first instant free after a start, and over the number of the rule that a start breaks. Assumes nothing.
 use mathlib.Core.Bool.{Bool, true, false}
-use mathlib.Core.List.{List, _∷_}
+use mathlib.Core.List.{List}
 use mathlib.Core.Option.{Option, none, some}
 use Prim.Native.Nat.{ℕ, zero, suc, max}
 use Rattle.rules.specs.declared.Idle.{Idle}

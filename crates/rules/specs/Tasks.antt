@@ -30,9 +30,20 @@ largest-number = 4294967295
 abbrev pub no-task : Task
 no-task = record { offset = 0; time = 1; period = 1; deadline = 1 }
 
--- task i of a set
-abbrev pub task : List Task → ℕ → Task
-task ts i = getD ts i no-task
+-- a set: its tasks, numbered from 0
+pub record Set : Type 0 where
+  pub tasks : List Task
+
+-- the set of these tasks
+abbrev pub set-with : List Task → Set
+set-with ts = record { tasks = ts }
+
+-- task i of a list, and of a set
+abbrev pub task-in : List Task → ℕ → Task
+task-in ts i = getD ts i no-task
+
+abbrev pub task : Set → ℕ → Task
+task ts i = task-in (ts .tasks) i
 
 -- job k of a task is released at O + kT, and due D later
 abbrev pub release : Task → ℕ → ℕ
@@ -46,9 +57,12 @@ abbrev pub jobs : ℕ → Task → ℕ
 jobs h t = h / t .period
 
 -- the jobs of all tasks together
-abbrev pub all-jobs : ℕ → List Task → ℕ
-all-jobs h [] = 0
-all-jobs h (t ∷ ts) = jobs h t + all-jobs h ts
+abbrev pub sum-of-jobs : ℕ → List Task → ℕ
+sum-of-jobs h [] = 0
+sum-of-jobs h (t ∷ ts) = jobs h t + sum-of-jobs h ts
+
+abbrev pub all-jobs : ℕ → Set → ℕ
+all-jobs h ts = sum-of-jobs h (ts .tasks)
 
 -- a task's own rule: 1 ≤ C ≤ D and O + D ≤ T
 pub record KeepsItsRule (t : Task) : Type 0 where
@@ -57,16 +71,16 @@ pub record KeepsItsRule (t : Task) : Type 0 where
   pub within : t .offset + t .deadline ≤ t .period
 
 -- the hyperperiod: every period divides it, and it divides every other number that every period divides
-pub record IsHyperperiod (ts : List Task) (h : ℕ) : Type 0 where
-  pub common : (i : ℕ) → i < length ts → task ts i .period ∣ h
-  pub least : (m : ℕ) → ((i : ℕ) → i < length ts → task ts i .period ∣ m) → h ∣ m
+pub record IsHyperperiod (ts : Set) (h : ℕ) : Type 0 where
+  pub common : (i : ℕ) → i < length (ts .tasks) → task ts i .period ∣ h
+  pub least : (m : ℕ) → ((i : ℕ) → i < length (ts .tasks) → task ts i .period ∣ m) → h ∣ m
 
 -- a good set, with its hyperperiod
-pub record GoodSet (ts : List Task) (h : ℕ) : Type 0 where
-  pub some-tasks : 1 ≤ length ts
-  pub few-tasks : length ts ≤ limits .tasks
-  pub own-rules : (i : ℕ) → i < length ts → KeepsItsRule (task ts i)
-  pub periods-rise : (i : ℕ) → suc i < length ts → task ts i .period ≤ task ts (suc i) .period
+pub record GoodSet (ts : Set) (h : ℕ) : Type 0 where
+  pub some-tasks : 1 ≤ length (ts .tasks)
+  pub few-tasks : length (ts .tasks) ≤ limits .tasks
+  pub own-rules : (i : ℕ) → i < length (ts .tasks) → KeepsItsRule (task ts i)
+  pub periods-rise : (i : ℕ) → suc i < length (ts .tasks) → task ts i .period ≤ task ts (suc i) .period
   pub is-hyperperiod : IsHyperperiod ts h
   pub short : h ≤ limits .ticks
   pub few-jobs : all-jobs h ts ≤ limits .jobs
@@ -80,9 +94,12 @@ abbrev pub lcm : ℕ → ℕ → ℕ
 lcm a b = a / gcd (suc b) a b * b
 
 -- the hyperperiod of a set, worked out
-abbrev pub hyperperiod : List Task → ℕ
-hyperperiod [] = 1
-hyperperiod (t ∷ ts) = lcm (t .period) (hyperperiod ts)
+abbrev pub common-multiple : List Task → ℕ
+common-multiple [] = 1
+common-multiple (t ∷ ts) = lcm (t .period) (common-multiple ts)
+
+abbrev pub hyperperiod : Set → ℕ
+hyperperiod ts = common-multiple (ts .tasks)
 
 -- do two tests both pass
 abbrev pub both : Bool → Bool → Bool
@@ -104,40 +121,44 @@ tasks-fault place before (t ∷ ts) =
     first (unless (keeps-its-rule t) 6 place) (first (unless (leb before (t .period)) 7 place) (tasks-fault (suc place) (t .period) ts))
 
 -- the first fault of a set, with the places that its records would have
-abbrev pub set-fault : List Task → Option Refusal
+abbrev pub set-fault : Set → Option Refusal
 set-fault ts =
-    first (unless (few-enough (length ts)) 5 0)
-    (first (tasks-fault 1 0 ts)
+    first (unless (few-enough (length (ts .tasks))) 5 0)
+    (first (tasks-fault 1 0 (ts .tasks))
     (first (unless (leb (hyperperiod ts) (limits .ticks)) 8 0) (unless (leb (all-jobs (hyperperiod ts) ts) (limits .jobs)) 9 0)))
 
 -- what a set's cycle comes to
-abbrev pub figures : List Task → Figures
+abbrev pub figures : Set → Figures
 figures ts = record { hyperperiod = hyperperiod ts; jobs = all-jobs (hyperperiod ts) ts }
 
 -- a task's period is below the one before
-abbrev pub period-falls : List Task → ℕ → Type 0
+abbrev pub period-falls : Set → ℕ → Type 0
 period-falls ts zero = ⊥
 period-falls ts (suc i) = task ts (suc i) .period < task ts i .period
 
 -- the tests of task i, and of a set, in the document's order, each condition by itself
-abbrev pub task-tests : List Task → ℕ → List Test
+abbrev pub task-tests : Set → ℕ → List Test
 task-tests ts i = test 6 (suc i) (KeepsItsRule (task ts i) → ⊥) ∷ test 7 (suc i) (period-falls ts i) ∷ []
 
-abbrev pub set-tests : List Task → List Test
+abbrev pub set-tests : Set → List Test
 set-tests ts =
-    test 5 0 ((1 ≤ length ts) × (length ts ≤ limits .tasks) → ⊥)
-    ∷ (in-turn (task-tests ts) 0 (length ts)
+    test 5 0 ((1 ≤ length (ts .tasks)) × (length (ts .tasks) ≤ limits .tasks) → ⊥)
+    ∷ (in-turn (task-tests ts) 0 (length (ts .tasks))
     ++ (test 8 0 ((h : ℕ) × IsHyperperiod ts h × (limits .ticks < h))
     ∷ test 9 0 ((h : ℕ) × IsHyperperiod ts h × (limits .jobs < all-jobs h ts))
     ∷ []))
 
--- a set in memory: n outside 1 to 16 is refused before any slot is read
+-- a set in memory has its tasks in the first n slots
+unfoldable pub memory-set : TaskSet → Set
+memory-set s = record { tasks = take (s .n) (s .tasks) }
+
+-- n outside 1 to 16 is refused before any slot is read
 abbrev pub memory-fault : TaskSet → Option Refusal
-memory-fault s = first (unless (few-enough (s .n)) 5 0) (set-fault (take (s .n) (s .tasks)))
+memory-fault s = first (unless (few-enough (s .n)) 5 0) (set-fault (memory-set s))
 
 -- its tests in order
 abbrev pub memory-tests : TaskSet → List Test
-memory-tests s = test 5 0 ((1 ≤ s .n) × (s .n ≤ limits .tasks) → ⊥) ∷ set-tests (take (s .n) (s .tasks))
+memory-tests s = test 5 0 ((1 ≤ s .n) × (s .n ≤ limits .tasks) → ⊥) ∷ set-tests (memory-set s)
 
 -- what was judged, as the answer
 abbrev pub set-answer : Judged Figures → SetAnswer
@@ -146,4 +167,4 @@ set-answer (refuses r) = Refused r
 
 -- judging a set in memory
 unfoldable pub judge-set : TaskSet → SetAnswer
-judge-set s = set-answer (or-else (memory-fault s) (gives (figures (take (s .n) (s .tasks)))))
+judge-set s = set-answer (or-else (memory-fault s) (gives (figures (memory-set s))))

@@ -5,9 +5,8 @@ use mathlib.Core.List.{List, [], _∷_}
 use Prim.Native.Nat.{ℕ, suc, _+_, _≤_, _<_}
 use lib.Dec.{eqb}
 use lib.ListN.{length, take, getD}
-use Rattle.rules.specs.declared.Task.{Task}
 use Rattle.rules.specs.declared.Entry.{Entry}
-use Rattle.rules.specs.Tasks.{task, release, due, jobs}
+use Rattle.rules.specs.Tasks.{Set, task, release, due, jobs}
 
 -- entry j of a timetable
 abbrev pub entry-at : List Entry → ℕ → Entry
@@ -28,14 +27,14 @@ abbrev pub job-at : List Entry → ℕ → ℕ
 job-at τ j = count (entry-at τ j .task) (take j τ)
 
 -- the end of an entry: its start + C
-abbrev pub end-at : List Task → List Entry → ℕ → ℕ
+abbrev pub end-at : Set → List Entry → ℕ → ℕ
 end-at ts τ j = entry-at τ j .start + task ts (entry-at τ j .task) .time
 
 -- a valid timetable of a set with hyperperiod h
-pub record ValidTimetable (ts : List Task) (h : ℕ) (τ : List Entry) : Type 0 where
-  pub tasks-below-n : (j : ℕ) → j < length τ → entry-at τ j .task < length ts
+pub record ValidTimetable (ts : Set) (h : ℕ) (τ : List Entry) : Type 0 where
+  pub tasks-below-n : (j : ℕ) → j < length τ → entry-at τ j .task < length (ts .tasks)
   pub not-too-many : (j : ℕ) → j < length τ → job-at τ j < jobs h (task ts (entry-at τ j .task))
   pub released : (j : ℕ) → j < length τ → release (task ts (entry-at τ j .task)) (job-at τ j) ≤ entry-at τ j .start
   pub no-overlap : (j : ℕ) → suc j < length τ → end-at ts τ j ≤ entry-at τ (suc j) .start
   pub in-time : (j : ℕ) → j < length τ → end-at ts τ j ≤ due (task ts (entry-at τ j .task)) (job-at τ j)
-  pub every-job : (i : ℕ) → i < length ts → (k : ℕ) → k < jobs h (task ts i) → (j : ℕ) × (j < length τ) × (entry-at τ j .task ≡ i) × (job-at τ j ≡ k)
+  pub every-job : (i : ℕ) → i < length (ts .tasks) → (k : ℕ) → k < jobs h (task ts i) → (j : ℕ) × (j < length τ) × (entry-at τ j .task ≡ i) × (job-at τ j ≡ k)

@@ -10,10 +10,10 @@ use Rattle.rules.specs.declared.Inversion.{Inversion}
 use Rattle.rules.specs.declared.Refusal.{Refusal}
 use Rattle.rules.specs.declared.Figures.{Figures}
 use Rattle.rules.specs.Refusals.{Judged, gives, refuses, Told, tells, make-tells}
-use Rattle.rules.specs.Tasks.{figures}
+use Rattle.rules.specs.Tasks.{Set, set-with, figures}
 use Rattle.rules.specs.Setting.{Tables}
 use Rattle.rules.specs.Image.{timetable-image, table-image}
-use Rattle.rules.specs.Framing.{frame, tasks-in}
+use Rattle.rules.specs.Framing.{frame, set-in}
 use Rattle.rules.specs.Operations.{derived-image, rebuilt-image, make-answer}
 
 -- a task, an entry, and the two kinds of records, as the document writes them
@@ -33,12 +33,12 @@ abbrev pub tables-with : List Idle → List Inversion → Tables
 tables-with idles inversions = record { idles = idles; inversions = inversions }
 
 -- the set to work by hand
-abbrev pub hand : List Task
-hand = TK 0 1 5 5 ∷ TK 0 2 10 10 ∷ TK 0 6 20 20 ∷ []
+abbrev pub hand : Set
+hand = set-with (TK 0 1 5 5 ∷ TK 0 2 10 10 ∷ TK 0 6 20 20 ∷ [])
 
 -- one task of one tick
-abbrev pub one-task : List Task
-one-task = TK 0 1 1 1 ∷ []
+abbrev pub one-task : Set
+one-task = set-with (TK 0 1 1 1 ∷ [])
 
 -- P1's starts, and P2's with job 1 of task 0 at an instant
 abbrev pub P1 : List Entry
@@ -69,8 +69,8 @@ P2-idles idles = tables-with idles (PV 1 0 7 ∷ PV 2 0 1 ∷ [])
 
 -- the set and the starts of document 000's figure 1, which the paper says differ from plain priority in an idle interval [9, 10) and a job of
 -- the second task before the first at 30
-abbrev pub figure-1 : List Task
-figure-1 = TK 0 3 10 10 ∷ TK 0 6 12 12 ∷ TK 0 8 60 60 ∷ []
+abbrev pub figure-1 : Set
+figure-1 = set-with (TK 0 3 10 10 ∷ TK 0 6 12 12 ∷ TK 0 8 60 60 ∷ [])
 
 abbrev pub figure-1-starts : List Entry
 figure-1-starts = SL 0 0 ∷ SL 1 3 ∷ SL 0 10 ∷ SL 1 13 ∷ SL 2 19 ∷ SL 0 27 ∷ SL 1 30 ∷ SL 0 36 ∷ SL 1 39 ∷ SL 0 45 ∷ SL 1 48 ∷ SL 0 54 ∷ []
@@ -104,7 +104,7 @@ hand-figures = record { hyperperiod = 20; jobs = 7 }
 abbrev no-figures : Figures
 no-figures = record { hyperperiod = 0; jobs = 0 }
 
-abbrev without-records : List Task → List ℕ
+abbrev without-records : Set → List ℕ
 without-records ts = table-image ts (tables-with [] [])
 
 abbrev pub worked : List Case
@@ -128,14 +128,14 @@ worked =
     ∷ makes (to-derive (timetable-image one-task (SL 0 0 ∷ []))) (without-records one-task) (record { hyperperiod = 1; jobs = 1 })
     ∷ makes (to-rebuild (without-records one-task)) (timetable-image one-task (SL 0 0 ∷ [])) (record { hyperperiod = 1; jobs = 1 })
     -- P10: periods 3 and 65,535; 2 and 65,535
-    ∷ refuses-with (to-rebuild (without-records (TK 0 1 3 3 ∷ TK 0 1 65535 65535 ∷ []))) (record { number = 9; place = 0 })
+    ∷ refuses-with (to-rebuild (without-records (set-with (TK 0 1 3 3 ∷ TK 0 1 65535 65535 ∷ [])))) (record { number = 9; place = 0 })
     (record { hyperperiod = 65535; jobs = 21846 })
-    ∷ refuses-with (to-rebuild (without-records (TK 0 1 2 2 ∷ TK 0 1 65535 65535 ∷ []))) (record { number = 8; place = 0 })
+    ∷ refuses-with (to-rebuild (without-records (set-with (TK 0 1 2 2 ∷ TK 0 1 65535 65535 ∷ [])))) (record { number = 8; place = 0 })
     (record { hyperperiod = 131070; jobs = 65537 })
     -- P11: periods 16 and 65,520, which pass as a set: what is missing is an entry; a third task of 65,520
-    ∷ refuses-with (to-derive (timetable-image (TK 0 1 16 16 ∷ TK 0 1 65520 65520 ∷ []) [])) (record { number = 16; place = 0 })
+    ∷ refuses-with (to-derive (timetable-image (set-with (TK 0 1 16 16 ∷ TK 0 1 65520 65520 ∷ [])) [])) (record { number = 16; place = 0 })
     (record { hyperperiod = 65520; jobs = 4096 })
-    ∷ refuses-with (to-derive (timetable-image (TK 0 1 16 16 ∷ TK 0 1 65520 65520 ∷ TK 0 1 65520 65520 ∷ []) [])) (record { number = 9; place = 0 })
+    ∷ refuses-with (to-derive (timetable-image (set-with (TK 0 1 16 16 ∷ TK 0 1 65520 65520 ∷ TK 0 1 65520 65520 ∷ [])) [])) (record { number = 9; place = 0 })
     (record { hyperperiod = 65520; jobs = 4097 })
     -- P12: no bytes
     ∷ refuses-with (to-derive []) (record { number = 1; place = 0 }) no-figures
@@ -155,7 +155,7 @@ bytes-of (gives bytes) = bytes
 bytes-of (refuses r) = []
 
 abbrev figures-in : List ℕ → Judged Layout → Figures
-figures-in bytes (gives l) = figures (tasks-in l bytes)
+figures-in bytes (gives l) = figures (set-in l bytes)
 figures-in bytes (refuses r) = no-figures
 
 abbrev figures-of : Asked → Figures

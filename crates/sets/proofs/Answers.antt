@@ -11,7 +11,7 @@ use Rattle.rules.specs.declared.TaskSet.{TaskSet}
 use Rattle.rules.specs.declared.Refusal.{Refusal}
 use Rattle.rules.specs.declared.SetAnswer.the-variants.{Good, Refused}
 use Rattle.rules.specs.Refusals.{refusal, gives, or-else, first, unless}
-use Rattle.rules.specs.Tasks.{limits, all-jobs, hyperperiod, few-enough, tasks-fault, figures, set-answer, judge-set, memory-fault}
+use Rattle.rules.specs.Tasks.{limits, sum-of-jobs, common-multiple, memory-set, few-enough, tasks-fault, figures, set-answer, judge-set, memory-fault}
 use Rattle.rules.proofs.Cases.{by-option, both-in, clash}
 use Rattle.sets.specs.Sets.{capped}
 use Rattle.sets.proofs.Slots.{first-tasks}
@@ -39,10 +39,10 @@ module _ {s : TaskSet} (m : InSlots s) where
   judged : judge-set s
       ≡ set-answer (or-else
       (first (tasks-fault 1 0 (first-tasks s))
-      (first (unless (leb (hyperperiod (first-tasks s)) (limits .ticks)) 8 0)
-      (unless (leb (all-jobs (hyperperiod (first-tasks s)) (first-tasks s)) (limits .jobs)) 9 0)))
-      (gives (figures (first-tasks s))))
-  unfolding judge-set
+      (first (unless (leb (common-multiple (first-tasks s)) (limits .ticks)) 8 0)
+      (unless (leb (sum-of-jobs (common-multiple (first-tasks s)) (first-tasks s)) (limits .jobs)) 9 0)))
+      (gives (figures (memory-set s))))
+  unfolding judge-set memory-set
   judged =
       let size : length (first-tasks s) ≡ s .n = simp length-take (omega arith) in
       let few : few-enough (s .n) ≡ true = both-in _ _ (le-leb 1 (s .n) (m .some-tasks)) (le-leb (s .n) (limits .tasks) (m .few-tasks)) in
@@ -52,15 +52,15 @@ module _ {s : TaskSet} (m : InSlots s) where
   pub refused-task : (r : Refusal) → tasks-fault 1 0 (first-tasks s) ≡ some r → Refused r ≡ judge-set s
   refused-task r e = sym (judged ∙ rw e)
 
-  module _ (no-fault : tasks-fault 1 0 (first-tasks s) ≡ none) (h : ℕ) (e : h ≡ capped (hyperperiod (first-tasks s))) where
+  module _ (no-fault : tasks-fault 1 0 (first-tasks s) ≡ none) (h : ℕ) (e : h ≡ capped (common-multiple (first-tasks s))) where
     -- a hyperperiod above the limit
     pub refused-long : limits .ticks < h → Refused (refusal 8 0) ≡ judge-set s
-    refused-long l = sym (judged ∙ rw (no-fault, lt-leb _ (limits .ticks) (told-long (hyperperiod (first-tasks s)) (omega arith))))
+    refused-long l = sym (judged ∙ rw (no-fault, lt-leb _ (limits .ticks) (told-long (common-multiple (first-tasks s)) (omega arith))))
 
-    module _ (short : h ≤ limits .ticks) (k : ℕ) (f : k ≡ all-jobs h (first-tasks s)) where
+    module _ (short : h ≤ limits .ticks) (k : ℕ) (f : k ≡ sum-of-jobs h (first-tasks s)) where
       -- h is the hyperperiod
-      is : hyperperiod (first-tasks s) ≡ h
-      is = sym (e ∙ told-within (hyperperiod (first-tasks s)) (omega arith))
+      is : common-multiple (first-tasks s) ≡ h
+      is = sym (e ∙ told-within (common-multiple (first-tasks s)) (omega arith))
 
       -- more jobs than the limit
       pub refused-many : limits .jobs < k → Refused (refusal 9 0) ≡ judge-set s
@@ -68,6 +68,7 @@ module _ {s : TaskSet} (m : InSlots s) where
 
       -- a good set
       pub answered-good : k ≤ limits .jobs → Good (record { hyperperiod = h; jobs = k }) ≡ judge-set s
+      unfolding memory-set
       answered-good l = sym (judged ∙ rw (no-fault, is, le-leb h (limits .ticks) short, ← f, le-leb k (limits .jobs) l))
 
 -- a set that is refused has that fault

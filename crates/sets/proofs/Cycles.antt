@@ -8,7 +8,7 @@ use native.Mathlib.Nat.{div-le-self, div-zero, dvd-refl}
 use lib.ListN.{length, take, drop, length-take}
 use lib.Seq.{drop-cons}
 use Rattle.rules.specs.declared.Task.{Task}
-use Rattle.rules.specs.Tasks.{limits, no-task, task, jobs, all-jobs, lcm, hyperperiod, tasks-fault}
+use Rattle.rules.specs.Tasks.{limits, no-task, set-with, task-in, jobs, sum-of-jobs, lcm, common-multiple, tasks-fault}
 use Rattle.rules.proofs.FirstTests.{none-holds}
 use Rattle.rules.proofs.GoodSets.{tasks-order, periods-positive}
 use Rattle.rules.proofs.Hyperperiod.{Positive, lcm-left, lcm-positive, hyperperiod-positive}
@@ -18,16 +18,16 @@ use Rattle.sets.proofs.Slots.{slot, none-left, one-more}
 
 -- tasks with no fault have periods of at least 1
 positive : (ts : List Task) → tasks-fault 1 0 ts ≡ none → Positive ts
-positive ts e = periods-positive ts (none-holds (tasks-order ts 0 (length ts) (omega arith)) e)
+positive ts e = periods-positive (set-with ts) (none-holds (tasks-order (set-with ts) 0 (length ts) (omega arith)) e)
 
 -- the hyperperiod of the tasks from a place on is not above that of them all
-hyperperiod-rest : (ts : List Task) → Positive ts → (i : ℕ) → hyperperiod (drop i ts) ≤ hyperperiod ts
+hyperperiod-rest : (ts : List Task) → Positive ts → (i : ℕ) → common-multiple (drop i ts) ≤ common-multiple ts
 hyperperiod-rest ts pos zero = omega arith
 hyperperiod-rest [] pos (suc i) = omega arith
 hyperperiod-rest (t ∷ ts) pos (suc i) =
     let tail : Positive ts = λ j l. pos (suc j) (omega arith) in
     let rest = hyperperiod-rest ts tail i in
-    omega (arith, lcm-above (t .period) (hyperperiod ts) (pos 0 (omega arith)) (hyperperiod-positive ts tail) .1)
+    omega (arith, lcm-above (t .period) (common-multiple ts) (pos 0 (omega arith)) (hyperperiod-positive ts tail) .1)
 
 -- h is the hyperperiod of the first n tasks from place i on, and up to the limit; the period after, the last that was looked at, divides it
 pub record CycleFrom (slots : List Task) (n i after h : ℕ) : Type 0 where
@@ -36,7 +36,7 @@ pub record CycleFrom (slots : List Task) (n i after h : ℕ) : Type 0 where
   pub some-ticks : 1 ≤ h
   pub short : h ≤ limits .ticks
   pub divides : after ∣ h
-  pub is : h ≡ hyperperiod (drop i (take n slots))
+  pub is : h ≡ common-multiple (drop i (take n slots))
 
 -- after the last task it is 1
 none-yet : (slots : List Task) (n : ℕ) → n ≤ length slots → CycleFrom slots n n 1 1
@@ -50,10 +50,10 @@ none-yet slots n room = record {
 }
 
 -- at the first task it is the hyperperiod
-pub cycle-ends : {slots : List Task} {n i after h : ℕ} → CycleFrom slots n i after h → i ≡ 0 → h ≡ capped (hyperperiod (take n slots))
+pub cycle-ends : {slots : List Task} {n i after h : ℕ} → CycleFrom slots n i after h → i ≡ 0 → h ≡ capped (common-multiple (take n slots))
 cycle-ends {slots} {n} {i} {after} {h} c z =
-    let e : h ≡ hyperperiod (take n slots) = rw z at (c .is) in
-    e ∙ capped-within (hyperperiod (take n slots)) (omega (arith, c .short))
+    let e : h ≡ common-multiple (take n slots) = rw z at (c .is) in
+    e ∙ capped-within (common-multiple (take n slots)) (omega (arith, c .short))
 
 module _ {slots : List Task} {n i after h : ℕ} (c : CycleFrom slots n i after h) (p : 0 < i) (no-fault : tasks-fault 1 0 (take n slots) ≡ none)
     (t : Task) (here : t ≡ slot slots (i - 1)) where
@@ -63,11 +63,11 @@ module _ {slots : List Task} {n i after h : ℕ} (c : CycleFrom slots n i after 
       let size : length (take n slots) ≡ n = simp length-take (omega arith) in
       let a = drop-cons (take n slots) (i - 1) no-task (omega arith) in
       let b = one-more slots n i (c .room) t p (c .place) here in
-      let e : task (take n slots) (i - 1) ≡ t = cc in
+      let e : task-in (take n slots) (i - 1) ≡ t = cc in
       rw e at (positive (take n slots) no-fault (i - 1) (omega arith))
 
   -- with its period the least common multiple is the hyperperiod from there on
-  period-more : lcm (t .period) h ≡ hyperperiod (drop (i - 1) (take n slots))
+  period-more : lcm (t .period) h ≡ common-multiple (drop (i - 1) (take n slots))
   period-more = rw (one-more slots n i (c .room) t p (c .place) here, c .is)
 
   -- so h goes on to it where that is up to the limit
@@ -88,9 +88,9 @@ module _ {slots : List Task} {n i after h : ℕ} (c : CycleFrom slots n i after 
   cycle-same e = rw e at (cycle-more h (lcm-of-multiple (t .period) h period-before (c .short) (rw e (c .divides))) (c .short))
 
   -- and above the limit the hyperperiod of all tasks is too
-  pub cycle-long : (r : ℕ) → r ≡ capped (lcm (t .period) h) → limits .ticks < r → r ≡ capped (hyperperiod (take n slots))
+  pub cycle-long : (r : ℕ) → r ≡ capped (lcm (t .period) h) → limits .ticks < r → r ≡ capped (common-multiple (take n slots))
   cycle-long r e l =
-      e ∙ told-above (lcm (t .period) h) (hyperperiod (take n slots))
+      e ∙ told-above (lcm (t .period) h) (common-multiple (take n slots))
       (omega (arith, period-more, hyperperiod-rest (take n slots) (positive (take n slots) no-fault) (i - 1))) (omega arith)
 
 module _ (slots : List Task) (n : ℕ) (p : 0 < n) (room : n ≤ length slots) (no-fault : tasks-fault 1 0 (take n slots) ≡ none)
@@ -104,7 +104,7 @@ module _ (slots : List Task) (n : ℕ) (p : 0 < n) (room : n ≤ length slots) (
   cycle-starts l = cycle-more (none-yet slots n room) p no-fault t here (t .period) (capped-within (t .period) l ∙ last-period) l
 
   -- where that is above the limit the hyperperiod is too
-  pub starts-long : limits .ticks < t .period → suc (limits .ticks) ≡ capped (hyperperiod (take n slots))
+  pub starts-long : limits .ticks < t .period → suc (limits .ticks) ≡ capped (common-multiple (take n slots))
   starts-long l = cycle-long (none-yet slots n room) p no-fault t here _ (capped-above (t .period) l ∙ last-period) (omega arith)
 
 -- sum is the jobs of the first n tasks from place i on, which leaves room for those of i tasks more; many are the jobs of a task with the period after
@@ -112,7 +112,7 @@ pub record JobsFrom (h : ℕ) (slots : List Task) (n i sum after many : ℕ) : T
   pub place : i ≤ n
   pub room : n ≤ length slots
   pub leaves-room : sum + limits .ticks * i ≤ limits .ticks * limits .tasks
-  pub is : sum ≡ all-jobs h (drop i (take n slots))
+  pub is : sum ≡ sum-of-jobs h (drop i (take n slots))
   pub each : many ≡ h / after
 
 -- after the last task there are none

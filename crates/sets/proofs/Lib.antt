@@ -4,4 +4,6 @@ pub mod Slots
 pub mod Faults
 pub mod Cycles
 pub mod Answers
+pub mod Arrays
+pub mod SetKept
 pub mod Promises

@@ -12,12 +12,11 @@ use Rattle.rules.specs.declared.Refusal.{Refusal}
 use Rattle.rules.specs.declared.SetAnswer.{SetAnswer}
 use Rattle.rules.specs.declared.SetAnswer.the-variants.{Good, Refused}
 use Rattle.rules.specs.Refusals.{First, unless}
-use Rattle.rules.specs.Tasks.{limits, all-jobs, hyperperiod, few-enough, set-fault, figures, memory-fault, memory-tests, judge-set}
+use Rattle.rules.specs.Tasks.{limits, all-jobs, hyperperiod, few-enough, set-fault, figures, memory-set, memory-fault, memory-tests, judge-set}
 use Rattle.rules.proofs.Cases.{by-option, clash, both-true, both-in, first-none, unless-none}
 use Rattle.rules.proofs.FirstTests.{one-first}
 use Rattle.rules.proofs.GoodSets.{good-set, set-good, memory-order}
 use Rattle.sets.specs.Sets.{GoodInMemory}
-use Rattle.sets.proofs.Slots.{first-tasks}
 
 -- the contract leaves one answer
 pub one-answer : (s : TaskSet) (a b : SetAnswer) → a ≡ judge-set s → b ≡ judge-set s → a ≡ b
@@ -25,7 +24,7 @@ one-answer s a b p q = p ∙ sym q
 
 module _ (s : TaskSet) where
   -- with no fault the answer is the figures
-  passes : memory-fault s ≡ none → judge-set s ≡ Good (figures (first-tasks s))
+  passes : memory-fault s ≡ none → judge-set s ≡ Good (figures (memory-set s))
   unfolding judge-set
   passes e = rw e
 
@@ -35,23 +34,23 @@ module _ (s : TaskSet) where
   fails r e = rw e
 
   -- a set with no fault is good
-  faultless : memory-fault s ≡ none → GoodInMemory s (figures (first-tasks s))
+  faultless : memory-fault s ≡ none → GoodInMemory s (figures (memory-set s))
   faultless e =
-      let a = first-none (unless (few-enough (s .n)) 5 0) (set-fault (first-tasks s)) e in
+      let a = first-none (unless (few-enough (s .n)) 5 0) (set-fault (memory-set s)) e in
       let few = both-true (leb 1 (s .n)) (leb (s .n) (limits .tasks)) (unless-none (few-enough (s .n)) 5 0 (a .0)) in
       record {
         some-tasks = leb-true 1 (s .n) (few .0);
         few-tasks = leb-true (s .n) (limits .tasks) (few .1);
-        good = good-set (first-tasks s) (a .1);
+        good = good-set (memory-set s) (a .1);
         counted = refl;
       }
 
   -- a good set has no fault, and its figures are those worked out
-  good-faultless : (f : Figures) → GoodInMemory s f → (memory-fault s ≡ none) × (f ≡ figures (first-tasks s))
+  good-faultless : (f : Figures) → GoodInMemory s f → (memory-fault s ≡ none) × (f ≡ figures (memory-set s))
   good-faultless f g =
-      let e = set-good (first-tasks s) (f .hyperperiod) (g .good) in
+      let e = set-good (memory-set s) (f .hyperperiod) (g .good) in
       let few = both-in _ _ (le-leb 1 (s .n) (g .some-tasks)) (le-leb (s .n) (limits .tasks) (g .few-tasks)) in
-      let same : f .jobs ≡ all-jobs (hyperperiod (first-tasks s)) (first-tasks s) = rw (← e .1) (g .counted) in
+      let same : f .jobs ≡ all-jobs (hyperperiod (memory-set s)) (memory-set s) = rw (← e .1) (g .counted) in
       (rw few (e .0), ap₂ (λ (h k : ℕ). record { hyperperiod = h; jobs = k }) (e .1) same)
 
 module _ (s : TaskSet) (a : SetAnswer) (met : a ≡ judge-set s) where
@@ -59,7 +58,7 @@ module _ (s : TaskSet) (a : SetAnswer) (met : a ≡ judge-set s) where
   pub good-exactly : (f : Figures) → (a ≡ Good f) ↔ GoodInMemory s f
   good-exactly f = (
     λ e. by-option (memory-fault s)
-        (λ z. let y : figures (first-tasks s) ≡ f = cc (passes s z) in rw y at (faultless s z))
+        (λ z. let y : figures (memory-set s) ≡ f = cc (passes s z) in rw y at (faultless s z))
         (λ r z. clash (cc (fails s r z))),
     λ g. let z = good-faultless s f g in rw (z .1) (met ∙ passes s (z .0)),
   )

@@ -3,12 +3,11 @@ use mathlib.Core.Path.{_≡_}
 use mathlib.Core.Option.{Option, none, some}
 use Prim.Native.Nat.{ℕ, zero, suc, _≤_}
 use lib.Dec.{leb}
-use lib.ListN.{take}
 use Rattle.rules.specs.declared.TaskSet.{TaskSet}
 use Rattle.rules.specs.declared.Figures.{Figures}
 use Rattle.rules.specs.declared.Refusal.{Refusal}
 use Rattle.rules.specs.Timetable.{pick}
-use Rattle.rules.specs.Tasks.{limits, all-jobs, GoodSet}
+use Rattle.rules.specs.Tasks.{limits, all-jobs, GoodSet, memory-set}
 
 -- a number of ticks up to the limit, or one above it
 abbrev pub capped : ℕ → ℕ
@@ -26,5 +25,5 @@ FirstFault o r = fault-in r (r .number) ≡ o
 pub record GoodInMemory (s : TaskSet) (f : Figures) : Type 0 where
   pub some-tasks : 1 ≤ s .n
   pub few-tasks : s .n ≤ limits .tasks
-  pub good : GoodSet (take (s .n) (s .tasks)) (f .hyperperiod)
-  pub counted : f .jobs ≡ all-jobs (f .hyperperiod) (take (s .n) (s .tasks))
+  pub good : GoodSet (memory-set s) (f .hyperperiod)
+  pub counted : f .jobs ≡ all-jobs (f .hyperperiod) (memory-set s)

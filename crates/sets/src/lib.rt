@@ -1,5 +1,5 @@
 // Task sets judged: 5 to 9 in document 01's order, with the places that the set's records would have. And what a good set is asked for: jobs of a task,
-// releases and deadlines. Exact for any 32-bit numbers: no sum or product wraps.
+// releases and deadlines, and the rows that are kept of it. Exact for any 32-bit numbers: no sum or product wraps.
 use rules::Figures;
 use rules::Refusal;
 use rules::SetAnswer;
@@ -7,11 +7,30 @@ use rules::Task;
 use rules::TaskSet;
 ghost use mathlib.Core.Path.{_≡_};
 ghost use mathlib.Core.Option.{none};
-ghost use Prim.Native.Nat.{suc, _+_, _≤_, _<_};
+ghost use Prim.Native.Nat.{suc, _+_, _-_, _≤_, _<_};
 ghost use lib.ListN.{length};
 ghost use Rattle.rules.specs.Tasks as book;
 ghost use Rattle.numbers.specs.Numbers.{tasks-from, set-from};
 ghost use Rattle.sets.specs.Sets.{capped, FirstFault};
+ghost use Rattle.sets.specs.Kept.{kept-of};
+
+// What is kept of a set, in rows of sixteen slots: its figures, and of each task the jobs a cycle, D − C, C and T.
+pub const FIGURES: usize = 0;
+
+pub const JOBS: usize = 1;
+
+pub const SLACK: usize = 2;
+
+pub const TIMES: usize = 3;
+
+pub const PERIODS: usize = 4;
+
+// The slots of its figures: how many tasks, the hyperperiod, and the jobs of all tasks a cycle.
+pub const TASKS: usize = 0;
+
+pub const HYPERPERIOD: usize = 1;
+
+pub const ALL_JOBS: usize = 2;
 
 // A number as a wider one.
 fn wide(x: u32) -> u64
@@ -134,7 +153,7 @@ fn hyperperiod(n: usize, numbers: &[u32], at: usize) -> u32
     requires few { ⌜ n ≤ 16 ⌝ }
     requires inside { ⌜ at + 64 ≤ length (now numbers) ⌝ }
     requires faultless { ⌜ book.tasks-fault 1 0 (tasks-from n (now numbers) at) ≡ none ⌝ }
-    ensures { λ r. ⌜ r ≡ capped (book.hyperperiod (tasks-from n (now (numbers .entry)) at)) ⌝ }
+    ensures { λ r. ⌜ r ≡ capped (book.common-multiple (tasks-from n (now (numbers .entry)) at)) ⌝ }
 {
     let mut i = n - 1;
     let mut after = numbers::task_from(numbers, at + 4 * i).period;
@@ -161,7 +180,7 @@ fn all_jobs(h: u32, n: usize, numbers: &[u32], at: usize) -> u32
     requires few { ⌜ n ≤ 16 ⌝ }
     requires short { ⌜ h ≤ 65535 ⌝ }
     requires inside { ⌜ at + 64 ≤ length (now numbers) ⌝ }
-    ensures { λ r. ⌜ r ≡ book.all-jobs h (tasks-from n (now (numbers .entry)) at) ⌝ }
+    ensures { λ r. ⌜ r ≡ book.sum-of-jobs h (tasks-from n (now (numbers .entry)) at) ⌝ }
 {
     let mut i = n;
     let mut sum: u32 = 0;
@@ -222,4 +241,38 @@ pub fn judge_set(s: TaskSet) -> SetAnswer
     let mut numbers = [0u32; 64];
     numbers::put_tasks(&mut numbers, 0, s);
     judge_numbers(s.n, &numbers, 0)
+}
+
+// D − C of a task: how long after its release a job may start at the latest. 0 where the deadline is the shorter.
+fn slack(t: Task) -> u32
+    ensures { λ r. ⌜ r ≡ t .deadline - t .time ⌝ }
+{
+    if t.deadline < t.time {
+        return 0;
+    }
+    t.deadline - t.time
+}
+
+// What is kept of a set with its figures.
+pub fn keep(s: TaskSet, f: Figures) -> [[u32; 16]; 5]
+    ensures { λ r. ⌜ r ≡ kept-of s f ⌝ }
+{
+    let mut figures = [0u32; 16];
+    figures[TASKS] = s.n;
+    figures[HYPERPERIOD] = f.hyperperiod;
+    figures[ALL_JOBS] = f.jobs;
+    let mut many = [0u32; 16];
+    let mut slacks = [0u32; 16];
+    let mut times = [0u32; 16];
+    let mut periods = [0u32; 16];
+    let mut i: usize = 0;
+    while i < 16 {
+        let t = s.tasks[i];
+        many[i] = jobs(f.hyperperiod, t);
+        slacks[i] = slack(t);
+        times[i] = t.time;
+        periods[i] = t.period;
+        i += 1;
+    }
+    [figures, many, slacks, times, periods]
 }

@@ -2,28 +2,25 @@
 use mathlib.Core.Path.{_≡_, refl, sym, _∙_, ap, ap₂}
 use mathlib.Core.Logic.{⊎-elim}
 use mathlib.Core.Bool.{true}
-use mathlib.Core.List.{List, _++_, map}
+use mathlib.Core.List.{List, _++_}
 use mathlib.Core.Option.{none, some}
 use Prim.Native.Nat.{ℕ, _+_, _-_, _≤_}
 use native.Mathlib.Omega.{arith}
-use lib.ListN.{length, take, replicate}
-use lib.Seq.{length-take-le}
+use lib.ListN.{length, replicate}
 use borrow.Author.Tests.{le-leb}
 use Rattle.fields.specs.Number.{Bytes}
-use Rattle.rules.specs.declared.Task.{Task}
 use Rattle.rules.specs.declared.TaskSet.{TaskSet}
 use Rattle.rules.specs.declared.Layout.{Layout}
-use Rattle.rules.specs.declared.Figures.{Figures}
 use Rattle.rules.specs.declared.Offsets.{Offsets as OffsetsOf}
 use Rattle.rules.specs.declared.Refusal.{Refusal}
 use Rattle.rules.specs.declared.SetAnswer.the-variants as set-case
 use Rattle.rules.specs.declared.CheckAnswer.the-variants as check-case
 use Rattle.rules.specs.Refusals.{Judged, gives, refuses, refusal, refusal-in}
-use Rattle.rules.specs.Tasks.{limits, jobs, all-jobs, hyperperiod, GoodSet, few-enough, set-fault, judge-set}
+use Rattle.rules.specs.Tasks.{Set, limits, hyperperiod, few-enough, set-fault, judge-set, memory-set}
 use Rattle.rules.specs.Setting.{Tables}
 use Rattle.rules.specs.Judging.{records-fault, judge-tables}
-use Rattle.rules.specs.Marks.{EN, size}
-use Rattle.rules.specs.Framing.{frame, tasks-in, tables-in}
+use Rattle.rules.specs.Marks.{EN, size, head-length-of}
+use Rattle.rules.specs.Framing.{frame, set-in, tables-in}
 use Rattle.rules.specs.Offsets.{first-offsets}
 use Rattle.rules.specs.Operations.{read-tables, rebuilt, check-answer, check-tables}
 use Rattle.rules.specs.Dispatcher.{zero-task}
@@ -33,7 +30,10 @@ use Rattle.rules.proofs.Images.{records-before, framed-tables, table-image-leng
 use Rattle.rules.proofs.RefusalNumbers.{table-numbers}
 use Rattle.rules.proofs.ShownAt.{Stand}
 use Rattle.rules.proofs.StandingTables.{read-stand}
+use Rattle.rules.proofs.Arrays.{memory-many}
 use Rattle.sets.specs.Sets.{FirstFault}
+use Rattle.sets.specs.Kept.{Rows, tasks-in as kept-tasks, hyperperiod-in, Keeps}
+use Rattle.sets.proofs.SetKept.{good-kept}
 use Rattle.sets.proofs.Faults.{told-none, told-fault}
 use Rattle.sets.proofs.Answers.{refused-fault}
 use Rattle.sets.proofs.Promises.{good-exactly}
@@ -44,13 +44,10 @@ use Rattle.framing.specs.Frames.{frame-answer}
 use Rattle.framing.proofs.Promises.{refused-is}
 use Rattle.framing.proofs.SetLaws.{set-tasks-many, set-slots-many}
 use Rattle.framing.proofs.RoomLaws.{framed-room, framed-set, tasks-framed}
-use Rattle.records.specs.Fits.{SetFits, InTime, SlackOf}
-use Rattle.records.specs.Tables.{inversions-offset, end-offset, records-offset, tables-at, HasOffsets}
+use Rattle.records.specs.Tables.{inversions-offset, end-offset, tables-at, HasOffsets}
 use Rattle.records.specs.Told.{CanJudge, RecordsTold}
-use Rattle.records.proofs.SetKept.{in-time, fits}
 use Rattle.records.proofs.RecordsRead.{idles-length, inversions-length, tables-framed}
 use Rattle.records.proofs.OffsetsTold.{tasks-below}
-use Rattle.replay.specs.Releases.{tasks-of}
 use Rattle.tables.specs.declared.Tables.{Tables as Judgement}
 use Rattle.tables.specs.Replayed.{RefusalTold, CanCompare}
 use Rattle.tables.specs.Judged.{SetStands, refused-with, Good, JudgedAs}
@@ -61,12 +58,12 @@ unfolding check-tables
 numbered bytes r e z = ⊎-elim (λ w. omega (arith, w)) (λ w. omega (arith, w)) (table-numbers bytes r (ap check-answer e))
 
 -- so a refusal is told by its number
-judged-refused : (bytes : List ℕ) (t : Judgement) (r : Refusal) → rebuilt bytes ≡ refuses r → t ≡ refused-with r → JudgedAs bytes t
+judged-refused : (bytes : List ℕ) {kept : Rows} (t : Judgement) (r : Refusal) → rebuilt bytes ≡ refuses r → t ≡ refused-with r → JudgedAs bytes t kept
 judged-refused bytes t r e is = rw is record { refused = λ _. (e, refl); good = λ z. absurd (numbered bytes r e z) }
 
 -- framing refuses
-pub judged-by-framing : (bytes : List ℕ) (t : Judgement) (a : FrameAnswer) → a ≡ frame-answer (frame 2 bytes) → (r : Refusal) →
-    a ≡ frame-case.Refused r → t ≡ refused-with r → JudgedAs bytes t
+pub judged-by-framing : (bytes : List ℕ) {kept : Rows} (t : Judgement) (a : FrameAnswer) → a ≡ frame-answer (frame 2 bytes) → (r : Refusal) →
+    a ≡ frame-case.Refused r → t ≡ refused-with r → JudgedAs bytes t kept
 judged-by-framing bytes t a e r is t-is =
     let f : frame 2 bytes ≡ refuses r = refused-is (frame 2 bytes) r (sym is ∙ e) in judged-refused bytes t r (rw f) t-is
 
@@ -92,15 +89,15 @@ module _ (bytes : List ℕ) {l : Layout} {s : TaskSet} (b : Bytes bytes) (framed
   slots = rw is (set-slots-many bytes (l .tasks) (framed-room 2 bytes l framed .0))
 
   -- its tasks are the image's
-  its-tasks : tasks-of s ≡ tasks-in l bytes
-  its-tasks = ap₂ take many (ap (λ (x : TaskSet). x .tasks) is) ∙ tasks-framed 2 bytes l framed
+  its-tasks : memory-set s ≡ set-in l bytes
+  its-tasks = ap memory-set is ∙ tasks-framed 2 bytes l framed
 
   -- there are n of them
-  pub its-tasks-many : length (tasks-of s) ≡ s .n
-  its-tasks-many = length-take-le (s .n) (s .tasks) (omega (arith, few, slots))
+  pub its-tasks-many : length (memory-set s .tasks) ≡ s .n
+  its-tasks-many = memory-many s (omega (arith, few, slots))
 
   -- the image is read as this set and these tables
-  pub read-so : read-tables bytes ≡ gives (record { tasks = tasks-of s; tables = its-tables bytes s l })
+  pub read-so : read-tables bytes ≡ gives (record { set = memory-set s; tables = its-tables bytes s l })
   read-so =
       let same : its-tables bytes s l ≡ tables-in l bytes =
       ap (λ (n : ℕ). tables-at bytes n (l .listed) (l .inversions)) many ∙ sym (tables-framed l bytes) in
@@ -109,156 +106,142 @@ module _ (bytes : List ℕ) {l : Layout} {s : TaskSet} (b : Bytes bytes) (framed
   -- the records stand in the image, with EN behind them
   pub long : end-offset (s .n) (l .listed) (l .inversions) + size EN ≡ length bytes
   long =
-      let w = framed-tables bytes b (record { tasks = tasks-of s; tables = its-tables bytes s l }) read-so in
+      let w = framed-tables bytes b (record { set = memory-set s; tables = its-tables bytes s l }) read-so in
       sym (ap length (w .1)
-      ∙ table-image-length (tasks-of s) (its-tables bytes s l)
+      ∙ table-image-length (memory-set s) (its-tables bytes s l)
       ∙ omega (
         arith,
         its-tasks-many,
-        idles-length bytes (records-offset (s .n)) (l .listed),
+        idles-length bytes (head-length-of (s .n)) (l .listed),
         inversions-length bytes (inversions-offset (s .n) (l .listed)) (l .inversions),
       ))
 
   -- a fault of the set refuses it
-  pub judged-by-set : (t : Judgement) (r : Refusal) → set-case.Refused r ≡ judge-set s → t ≡ refused-with r → JudgedAs bytes t
+  pub judged-by-set : {kept : Rows} (t : Judgement) (r : Refusal) → set-case.Refused r ≡ judge-set s → t ≡ refused-with r → JudgedAs bytes t kept
   judged-by-set t r e t-is =
-      let w = framed-tables bytes b (record { tasks = tasks-of s; tables = its-tables bytes s l }) read-so in
+      let w = framed-tables bytes b (record { set = memory-set s; tables = its-tables bytes s l }) read-so in
       let some-tasks : 1 ≤ s .n = omega (arith, w .0 .some-tasks, its-tasks-many) in
       let counted : few-enough (s .n) ≡ true = both-in _ _ (le-leb 1 (s .n) some-tasks) (le-leb (s .n) (limits .tasks) few) in
-      let fault : set-fault (tasks-of s) ≡ some r = rw counted at (refused-fault s r e) in
+      let fault : set-fault (memory-set s) ≡ some r = rw counted at (refused-fault s r e) in
       judged-refused bytes t r (rw (read-so, fault)) t-is
 
   -- behind its tasks its slots are zero
-  pub its-zero-slots : s .tasks ≡ tasks-of s ++ replicate (limits .tasks - s .n) zero-task
+  pub its-zero-slots : s .tasks ≡ memory-set s .tasks ++ replicate (limits .tasks - s .n) zero-task
   its-zero-slots =
-      let shape : s .tasks ≡ tasks-in l bytes ++ replicate (limits .tasks - l .tasks) zero-task =
+      let shape : s .tasks ≡ set-in l bytes .tasks ++ replicate (limits .tasks - l .tasks) zero-task =
       ap (λ (x : TaskSet). x .tasks) (is ∙ framed-set 2 bytes l framed) in
-      shape ∙ ap₂ (λ (us : List Task) (n : ℕ). us ++ replicate (limits .tasks - n) zero-task) (sym its-tasks) (sym many)
+      shape ∙ ap₂ (λ (us : Set) (n : ℕ). us .tasks ++ replicate (limits .tasks - n) zero-task) (sym its-tasks) (sym many)
 
 -- a framed image with a good set
-module _ {bytes : List ℕ} {s : TaskSet} {f : Figures} {l : Layout} (b : Bytes bytes) (st : SetStands bytes s f l) where
+module _ {bytes : List ℕ} {s : TaskSet} {kept : Rows} {l : Layout} (b : Bytes bytes) (st : SetStands bytes s kept l) where
   -- its tables
   abbrev X : Tables
   X = its-tables bytes s l
 
-  -- its tasks lie in its slots
+  -- there are n tasks, and they lie in the set's slots
+  tasks-many : length (memory-set s .tasks) ≡ s .n
+  tasks-many = its-tasks-many bytes b (st .framed) (st .set-is)
+
   set-room : s .n ≤ length (s .tasks)
   set-room = omega (arith, few bytes b (st .framed) (st .set-is), slots bytes b (st .framed) (st .set-is))
 
-  -- the set is good, has no fault, and its hyperperiod is the one worked out
-  good : GoodSet (tasks-of s) (f .hyperperiod)
-  good = good-exactly s (set-case.Good f) (st .good) f .0 refl .good
+  -- what is kept is kept of the set: its number of tasks and its hyperperiod are there
+  keeps : Keeps (memory-set s) kept
+  keeps = rw (st .kept-is) (good-kept (good-exactly s (set-case.Good (st .figures)) (st .good) (st .figures) .0 refl) set-room)
 
-  no-fault : set-fault (tasks-of s) ≡ none
-  no-fault = set-good (tasks-of s) (f .hyperperiod) good .0
+  n-is : kept-tasks kept ≡ s .n
+  n-is = keeps .n-tasks ∙ tasks-many
 
-  cycle-is : f .hyperperiod ≡ hyperperiod (tasks-of s)
-  cycle-is = set-good (tasks-of s) (f .hyperperiod) good .1
+  no-fault : set-fault (memory-set s) ≡ none
+  no-fault = set-good (memory-set s) (hyperperiod-in kept) (keeps .good) .0
 
-  -- its jobs a cycle are those counted
-  pub jobs-counted : f .jobs ≡ all-jobs (f .hyperperiod) (tasks-of s)
-  jobs-counted = good-exactly s (set-case.Good f) (st .good) f .0 refl .counted
+  cycle-is : hyperperiod-in kept ≡ hyperperiod (memory-set s)
+  cycle-is = set-good (memory-set s) (hyperperiod-in kept) (keeps .good) .1
 
-  -- C ≤ D for each of its tasks
-  pub its-times : InTime s
-  its-times = in-time s good refl set-room
+  -- its records can be judged
+  pub can-judge : CanJudge bytes kept (l .listed) (l .inversions)
+  can-judge = record { set = memory-set s; keeps = keeps; stand = rw n-is (omega (arith, long bytes b (st .framed) (st .set-is))) }
 
-  module _ {many slack : List ℕ} (jobs-are : many ≡ map (jobs (f .hyperperiod)) (s .tasks)) (slack-is : SlackOf s slack) where
-    -- what is kept of the set fits it
-    its-fits : SetFits (tasks-of s) (f .hyperperiod) (s .n) many slack
-    its-fits = fits s good refl set-room jobs-are slack-is
+  module _ (r : Refusal) (told : RecordsTold bytes kept (l .listed) (l .inversions) r) where
+    -- the first fault of its records is told
+    first-fault : FirstFault (records-fault (memory-set s) (hyperperiod (memory-set s)) X) r
+    first-fault = rw (cycle-is, n-is) at (told .first (memory-set s) keeps)
 
-    -- its records can be judged
-    pub can-judge : CanJudge bytes (s .n) (f .hyperperiod) many slack (l .listed) (l .inversions)
-    can-judge = record { tasks = tasks-of s; fits = its-fits; stand = omega (arith, long bytes b (st .framed) (st .set-is)) }
+    -- a record that breaks its rule refuses it
+    pub judged-by-records : (r .number ≡ 0 → ⊥) → (t : Judgement) → t ≡ refused-with r → JudgedAs bytes t kept
+    judged-by-records z t t-is =
+        judged-refused bytes t r (rw (read-so bytes b (st .framed) (st .set-is), no-fault, told-fault _ r first-fault z)) t-is
 
-    module _ (r : Refusal) (told : RecordsTold bytes (s .n) (f .hyperperiod) many slack (l .listed) (l .inversions) r) where
-      -- the first fault of its records is told
-      first-fault : FirstFault (records-fault (tasks-of s) (hyperperiod (tasks-of s)) X) r
-      first-fault = rw (← cycle-is) (told .first (tasks-of s) its-fits)
+    module _ (none-broken : r .number ≡ 0) where
+      -- no record breaks its rule
+      records-good : records-fault (memory-set s) (hyperperiod (memory-set s)) X ≡ none
+      records-good = told-none _ r first-fault none-broken
 
-      -- a record that breaks its rule refuses it
-      pub judged-by-records : (r .number ≡ 0 → ⊥) → (t : Judgement) → t ≡ refused-with r → JudgedAs bytes t
-      judged-by-records z t t-is =
-          judged-refused bytes t r (rw (read-so bytes b (st .framed) (st .set-is), no-fault, told-fault _ r first-fault z)) t-is
-
-      module _ (none-broken : r .number ≡ 0) where
-        -- no record breaks its rule
-        records-good : records-fault (tasks-of s) (hyperperiod (tasks-of s)) X ≡ none
-        records-good = told-none _ r first-fault none-broken
-
-        -- the offsets as at a cycle's start can be told
-        pub has-offsets : HasOffsets bytes (s .n) (l .listed) (l .inversions)
-        has-offsets =
-            let read = read-so bytes b (st .framed) (st .set-is) in
-            let stand : Stand bytes (tasks-of s) X (records-before (tasks-of s) X) = read-stand bytes (tasks-of s) X b read no-fault records-good in
-            let tasks-are = its-tasks-many bytes b (st .framed) (st .set-is) in
-            record {
-              few = few bytes b (st .framed) (st .set-is);
-              stand = omega (arith, long bytes b (st .framed) (st .set-is));
-              short = omega (
-                arith,
-                stand .short,
-                tasks-are,
-                idles-length bytes (records-offset (s .n)) (l .listed),
-                inversions-length bytes (inversions-offset (s .n) (l .listed)) (l .inversions),
-              );
-              tasks = rw tasks-are at (tasks-below (tasks-of s) (hyperperiod (tasks-of s)) X records-good);
-            }
-
-        module _ (first : OffsetsOf) (offsets-are : (ts : List Task) → length ts ≡ s .n → first ≡ first-offsets ts X) where
-          -- those that are told are those
-          first-is : first ≡ first-offsets (tasks-of s) X
-          first-is = offsets-are (tasks-of s) (its-tasks-many bytes b (st .framed) (st .set-is))
-
-          -- its tables can be replayed
-          pub can-compare : CanCompare bytes s (f .hyperperiod) many slack (l .listed) first
-          can-compare = record {
-            can = record {
-              tables = X;
-              read = read-so bytes b (st .framed) (st .set-is);
-              good = no-fault;
-              records-good = records-good;
-              fits = its-fits;
-              first-is = first-is;
-            };
-            idle-records = sym (idles-length bytes (records-offset (s .n)) (l .listed));
+      -- the offsets as at a cycle's start can be told
+      pub has-offsets : HasOffsets bytes (s .n) (l .listed) (l .inversions)
+      has-offsets =
+          let read = read-so bytes b (st .framed) (st .set-is) in
+          let stand : Stand bytes (memory-set s) X (records-before (memory-set s) X) = read-stand bytes (memory-set s) X b read no-fault records-good in
+          record {
+            few = few bytes b (st .framed) (st .set-is);
+            stand = omega (arith, long bytes b (st .framed) (st .set-is));
+            short = omega (
+              arith,
+              stand .short,
+              tasks-many,
+              idles-length bytes (head-length-of (s .n)) (l .listed),
+              inversions-length bytes (inversions-offset (s .n) (l .listed)) (l .inversions),
+            );
+            tasks = rw tasks-many at (tasks-below (memory-set s) (hyperperiod (memory-set s)) X records-good);
           }
 
-          module _ (q : Refusal) (replayed : RefusalTold (rebuilt bytes) q) where
-            -- a late job or a difference refuses it
-            pub judged-by-replay : (q .number ≡ 0 → ⊥) → (t : Judgement) → t ≡ refused-with q → JudgedAs bytes t
-            judged-by-replay z t t-is =
-                judged-refused bytes t q (refusal-is (rebuilt bytes) q (told-fault (refusal-in (rebuilt bytes)) q (replayed .first) z)) t-is
+      module _ (first : OffsetsOf) (offsets-are : (ts : Set) → length (ts .tasks) ≡ s .n → first ≡ first-offsets ts X) where
+        -- its tables can be replayed
+        pub can-compare : CanCompare bytes s kept (l .listed) first
+        can-compare = record {
+          can = record {
+            tables = X;
+            read = read-so bytes b (st .framed) (st .set-is);
+            good = no-fault;
+            records-good = records-good;
+            keeps = keeps;
+            first-is = offsets-are (memory-set s) tasks-many;
+          };
+          idle-records = sym (idles-length bytes (head-length-of (s .n)) (l .listed));
+        }
 
-            -- or it is accepted
-            pub judged-good : q .number ≡ 0 →
-                JudgedAs bytes (record { refusal = q; set = s; hyperperiod = f .hyperperiod; jobs = f .jobs; first = first })
-            judged-good z =
-                let read = read-so bytes b (st .framed) (st .set-is) in
-                let no-refusal : q ≡ refusal 0 0 = ap₂ refusal z (replayed .no-place z) in
-                let none-told : refusal-in (rebuilt bytes) ≡ none = told-none (refusal-in (rebuilt bytes)) q (replayed .first) z in
-                by-judged (judge-tables (tasks-of s) X)
-                (λ τ e. record {
-                  refused = λ n. absurd (n z);
-                  good = λ _. record {
-                    no-refusal = no-refusal;
-                    tables = X;
-                    entries = τ;
-                    few = few bytes b (st .framed) (st .set-is);
-                    tasks-many = its-tasks-many bytes b (st .framed) (st .set-is);
-                    zero-slots = its-zero-slots bytes b (st .framed) (st .set-is);
-                    read = read;
-                    judged = e;
-                    cycle = cycle-is;
-                    starts = jobs-counted;
-                    offsets = first-is;
-                  };
-                })
-                (λ r e. let refused-too : some r ≡ none = rw (read, e) at none-told in clash (cc))
+        module _ (q : Refusal) (replayed : RefusalTold (rebuilt bytes) q) where
+          -- a late job or a difference refuses it
+          pub judged-by-replay : (q .number ≡ 0 → ⊥) → (t : Judgement) → t ≡ refused-with q → JudgedAs bytes t kept
+          judged-by-replay z t t-is =
+              judged-refused bytes t q (refusal-is (rebuilt bytes) q (told-fault (refusal-in (rebuilt bytes)) q (replayed .first) z)) t-is
+
+          -- or it is accepted
+          pub judged-good : q .number ≡ 0 → JudgedAs bytes (record { refusal = q; set = s; first = first }) kept
+          judged-good z =
+              let read = read-so bytes b (st .framed) (st .set-is) in
+              let no-refusal : q ≡ refusal 0 0 = ap₂ refusal z (replayed .no-place z) in
+              let none-told : refusal-in (rebuilt bytes) ≡ none = told-none (refusal-in (rebuilt bytes)) q (replayed .first) z in
+              by-judged (judge-tables (memory-set s) X)
+              (λ τ e. record {
+                refused = λ n. absurd (n z);
+                good = λ _. record {
+                  no-refusal = no-refusal;
+                  tables = X;
+                  entries = τ;
+                  few = few bytes b (st .framed) (st .set-is);
+                  tasks-many = tasks-many;
+                  zero-slots = its-zero-slots bytes b (st .framed) (st .set-is);
+                  read = read;
+                  judged = e;
+                  keeps = keeps;
+                  offsets = offsets-are (memory-set s) tasks-many;
+                };
+              })
+              (λ r e. let refused-too : some r ≡ none = rw (read, e) at none-told in clash (cc))
 
 -- plain checking answers as the image was judged
-module _ (bytes : List ℕ) (t : Judgement) (j : JudgedAs bytes t) where
+module _ (bytes : List ℕ) (t : Judgement) {kept : Rows} (j : JudgedAs bytes t kept) where
   pub refusal-answered : (t .refusal .number ≡ 0 → ⊥) → check-case.Refused (t .refusal) ≡ check-tables bytes
   unfolding check-tables
   refusal-answered z = sym (ap check-answer (j .refused z .0))

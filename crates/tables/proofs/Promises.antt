@@ -7,13 +7,12 @@ use Prim.Native.Nat.{ℕ, _-_}
 use native.Mathlib.Omega.{arith}
 use lib.ListN.{length, replicate}
 use Rattle.fields.specs.Number.{Bytes}
-use Rattle.rules.specs.declared.Task.{Task}
 use Rattle.rules.specs.declared.Entry.{Entry}
 use Rattle.rules.specs.declared.Refusal.{Refusal}
 use Rattle.rules.specs.declared.CheckAnswer.{CheckAnswer}
 use Rattle.rules.specs.declared.CheckAnswer.the-variants.{Accepted, Refused}
 use Rattle.rules.specs.Refusals.{gives, refuses}
-use Rattle.rules.specs.Tasks.{limits, all-jobs, hyperperiod}
+use Rattle.rules.specs.Tasks.{Set, limits, memory-set}
 use Rattle.rules.specs.Offsets.{first-offsets}
 use Rattle.rules.specs.Operations.{Timed, Tabled, rebuilt, check-tables}
 use Rattle.rules.specs.Dispatcher.{zero-task}
@@ -21,7 +20,7 @@ use Rattle.rules.specs.Promised.{TableImage, RefusesTableImage}
 use Rattle.rules.proofs.Cases.{by-nat, clash, gives-in}
 use Rattle.rules.proofs.Demand2.{rebuilds}
 use Rattle.rules.proofs.Promises as book
-use Rattle.replay.specs.Releases.{tasks-of}
+use Rattle.sets.specs.Kept.{Rows}
 use Rattle.tables.specs.declared.Tables.{Tables as Judgement}
 use Rattle.tables.specs.Judged.{refused-with, Good, JudgedAs}
 
@@ -31,7 +30,7 @@ one-answer bytes r q e f = e ∙ sym f
 
 -- the answer is Accepted exactly where the bytes are the image of a good set and of the tables that a valid timetable of it has
 pub accepted-exactly : (bytes : List ℕ) → Bytes bytes → (r : CheckAnswer) → r ≡ check-tables bytes →
-    (r ≡ Accepted) ↔ ((ts : List Task) × (τ : List Entry) × TableImage bytes ts τ)
+    (r ≡ Accepted) ↔ ((ts : Set) × (τ : List Entry) × TableImage bytes ts τ)
 accepted-exactly bytes b r e =
     let exactly = book.accepted-tables bytes b in
     (λ a. exactly .0 (sym e ∙ a), λ w. e ∙ exactly .1 w)
@@ -43,47 +42,45 @@ refused-exactly bytes r e q =
     (λ a. exactly .0 (sym e ∙ a), λ w. e ∙ exactly .1 w)
 
 -- what an accepted image comes to
-good-rebuilt : {bytes : List ℕ} {t : Judgement} (g : Good bytes t) →
-    rebuilt bytes ≡ gives (record { tasks = tasks-of (t .set); entries = g .entries })
+good-rebuilt : {bytes : List ℕ} {t : Judgement} {kept : Rows} (g : Good bytes t kept) →
+    rebuilt bytes ≡ gives (record { set = memory-set (t .set); entries = g .entries })
 good-rebuilt g = rw (g .read, g .judged)
 
 -- what is accepted is told by the image
-module _ {bytes : List ℕ} {t u : Judgement} (g : Good bytes t) (k : Good bytes u) where
+module _ {bytes : List ℕ} {t u : Judgement} {kept others : Rows} (g : Good bytes t kept) (k : Good bytes u others) where
   -- what the image holds is the same
-  same-held : _≡_ {A = Tabled} (record { tasks = tasks-of (t .set); tables = g .tables }) (record { tasks = tasks-of (u .set); tables = k .tables })
+  same-held : _≡_ {A = Tabled} (record { set = memory-set (t .set); tables = g .tables }) (record { set = memory-set (u .set); tables = k .tables })
   same-held = gives-in _ _ (sym (g .read) ∙ k .read)
 
   -- and so are the tasks
-  same-tasks : tasks-of (t .set) ≡ tasks-of (u .set)
-  same-tasks = ap (λ (x : Tabled). x .tasks) same-held
+  same-tasks : memory-set (t .set) ≡ memory-set (u .set)
+  same-tasks = ap (λ (x : Tabled). x .set) same-held
 
   -- so the set is the same
   same-set : t .set ≡ u .set
   same-set =
-      let n : t .set .n ≡ u .set .n = omega (arith, g .tasks-many, k .tasks-many, ap length same-tasks) in
+      let n : t .set .n ≡ u .set .n = omega (arith, g .tasks-many, k .tasks-many, ap (λ (ts : Set). length (ts .tasks)) same-tasks) in
       let tasks : t .set .tasks ≡ u .set .tasks =
       g .zero-slots
-      ∙ ap₂ (λ (us : List Task) (m : ℕ). us ++ replicate (limits .tasks - m) zero-task) same-tasks n
+      ∙ ap₂ (λ (us : Set) (m : ℕ). us .tasks ++ replicate (limits .tasks - m) zero-task) same-tasks n
       ∙ sym (k .zero-slots) in
       λ i. record { n = n i; tasks = tasks i }
 
-  -- and its figures and first offsets
+  -- and its first offsets
   good-same : t ≡ u
   good-same =
       let r : t .refusal ≡ u .refusal = g .no-refusal ∙ sym (k .no-refusal) in
-      let cycle : t .hyperperiod ≡ u .hyperperiod = g .cycle ∙ ap hyperperiod same-tasks ∙ sym (k .cycle) in
-      let starts : t .jobs ≡ u .jobs = g .starts ∙ ap₂ all-jobs cycle same-tasks ∙ sym (k .starts) in
       let offsets : t .first ≡ u .first =
-      g .offsets ∙ ap (λ (x : Tabled). first-offsets (x .tasks) (x .tables)) same-held ∙ sym (k .offsets) in
-      λ i. record { refusal = r i; set = same-set i; hyperperiod = cycle i; jobs = starts i; first = offsets i }
+      g .offsets ∙ ap (λ (x : Tabled). first-offsets (x .set) (x .tables)) same-held ∙ sym (k .offsets) in
+      λ i. record { refusal = r i; set = same-set i; first = offsets i }
 
 -- what is accepted is not refused
-good-not-refused : {bytes : List ℕ} {t : Judgement} → Good bytes t → (r : Refusal) → rebuilt bytes ≡ refuses r → ⊥
+good-not-refused : {bytes : List ℕ} {t : Judgement} {kept : Rows} → Good bytes t kept → (r : Refusal) → rebuilt bytes ≡ refuses r → ⊥
 good-not-refused {bytes} {t} g r e = let both = sym (good-rebuilt g) ∙ e in clash (cc)
 
 -- the contract of `judge` leaves one result
-pub one-judgement : (bytes : List ℕ) (t u : Judgement) → JudgedAs bytes t → JudgedAs bytes u → t ≡ u
-one-judgement bytes t u a b =
+pub one-judgement : (bytes : List ℕ) (t u : Judgement) (kept others : Rows) → JudgedAs bytes t kept → JudgedAs bytes u others → t ≡ u
+one-judgement bytes t u kept others a b =
     by-nat (t .refusal .number)
     (λ y. by-nat (u .refusal .number) (λ z. good-same (a .good y) (b .good z))
     (λ m z. absurd (good-not-refused (a .good y) (u .refusal) (b .refused (λ q. omega (arith, q, z)) .0))))
@@ -96,9 +93,9 @@ one-judgement bytes t u a b =
     v .1 ∙ ap refused-with same ∙ sym (w .1)))
 
 -- the timetable behind an accepted image is the only one that has its tables
-pub only-timetable : {bytes : List ℕ} {t : Judgement} (g : Good bytes t) {us : List Task} {σ : List Entry} → TableImage bytes us σ →
-    (us ≡ tasks-of (t .set)) × (σ ≡ g .entries)
+pub only-timetable : {bytes : List ℕ} {t : Judgement} {kept : Rows} (g : Good bytes t kept) {us : Set} {σ : List Entry} → TableImage bytes us σ →
+    (us ≡ memory-set (t .set)) × (σ ≡ g .entries)
 only-timetable {t = t} g {us} {σ} image =
-    let same : _≡_ {A = Timed} (record { tasks = us; entries = σ }) (record { tasks = tasks-of (t .set); entries = g .entries }) =
+    let same : _≡_ {A = Timed} (record { set = us; entries = σ }) (record { set = memory-set (t .set); entries = g .entries }) =
     gives-in _ _ (sym (rebuilds image) ∙ good-rebuilt g) in
-    (ap (λ (x : Timed). x .tasks) same, ap (λ (x : Timed). x .entries) same)
+    (ap (λ (x : Timed). x .set) same, ap (λ (x : Timed). x .entries) same)

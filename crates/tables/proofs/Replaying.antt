@@ -7,26 +7,26 @@ use native.Mathlib.Omega.{arith}
 use lib.ListN.{length}
 use borrow.Author.Tests.{lt-ltb, le-ltb}
 use Rattle.fields.specs.Number.{Bytes}
-use Rattle.rules.specs.declared.Task.{Task}
 use Rattle.rules.specs.declared.TaskSet.{TaskSet}
 use Rattle.rules.specs.declared.Entry.{Entry}
 use Rattle.rules.specs.declared.Offsets.{Offsets as OffsetsOf}
 use Rattle.rules.specs.Refusals.{Judged, gives, refuses, refusal, then, refusal-in}
-use Rattle.rules.specs.Tasks.{limits}
+use Rattle.rules.specs.Tasks.{Set, limits, memory-set}
 use Rattle.rules.specs.Setting.{Tables}
 use Rattle.rules.specs.Judging.{judge-tables}
-use Rattle.rules.specs.Marks.{ID, PV, size}
-use Rattle.rules.specs.Offsets.{last-offset, tables-offset}
+use Rattle.rules.specs.Marks.{ID, PV, size, head-count-of}
+use Rattle.rules.specs.Offsets.{last-offset}
 use Rattle.rules.specs.Operations.{rebuilt}
+use Rattle.rules.specs.Image.{head-count, head-length}
 use Rattle.rules.proofs.Cases.{by-eq, by-le, clash}
 use Rattle.rules.proofs.Images.{records-before}
 use Rattle.rules.proofs.ShownAt.{Stand}
 use Rattle.rules.proofs.OffsetReplay.{first-inversion-offset}
 use Rattle.rules.proofs.WastedRecords.{judged-unused, judged-wasted, judged-accepted}
 use Rattle.sets.specs.Sets.{FirstFault}
+use Rattle.sets.specs.Kept.{Rows, tasks-in}
 use Rattle.decision.specs.declared.Found.{Found}
 use Rattle.decision.specs.declared.NextStart.the-variants.{Starts, Stuck}
-use Rattle.replay.specs.Releases.{tasks-of}
 use Rattle.replay.specs.Runs.{Ends, cycle-of}
 use Rattle.replay.proofs.Cycles.{CycleDone, cycle-stand, cycle-stuck, cycle-done}
 use Rattle.tables.specs.Replayed.{RefusalTold, behind-idles, Ended, unused-at, CanCompare}
@@ -42,21 +42,21 @@ refusal-through (gives a) next = refl
 refusal-through (refuses r) next = refl
 
 -- an image that may be replayed, and what replay of its cycle comes to
-module _ {bytes : List ℕ} {s : TaskSet} {h : ℕ} {many slack : List ℕ} {idles : ℕ} {first : OffsetsOf} (are-bytes : Bytes bytes)
-    (slots : length (s .tasks) ≡ limits .tasks) (given : CanCompare bytes s h many slack idles first) where
+module _ {bytes : List ℕ} {s : TaskSet} {kept : Rows} {idles : ℕ} {first : OffsetsOf} (are-bytes : Bytes bytes)
+    (slots : length (s .tasks) ≡ limits .tasks) (given : CanCompare bytes s kept idles first) where
   -- the tasks, the tables that are replayed, and the run through the cycle
-  abbrev ts : List Task
-  ts = tasks-of s
+  abbrev ts : Set
+  ts = memory-set s
 
   abbrev X : Tables
   X = given .can .tables
 
   abbrev run : Ends
-  run = cycle-of bytes s h first
+  run = cycle-of bytes s first
 
   -- the image comes to what judging the tables comes to
   image-told : refusal-in (rebuilt bytes) ≡ refusal-in (judge-tables ts X)
-  image-told = rw (given .can .read) (refusal-through (judge-tables ts X) (λ (τ : List Entry). record { tasks = ts; entries = τ }))
+  image-told = rw (given .can .read) (refusal-through (judge-tables ts X) (λ (τ : List Entry). record { set = ts; entries = τ }))
 
   -- a refusal of the tables is told
   refused-so : (number place : ℕ) → judge-tables ts X ≡ refuses (refusal (suc number) place) →
@@ -78,7 +78,7 @@ module _ {bytes : List ℕ} {s : TaskSet} {h : ℕ} {many slack : List ℕ} {idl
   stand = cycle-stand are-bytes slots (given .can)
 
   -- the first ID, PV or EN is behind the tasks
-  first-idle : first .idle ≡ tables-offset ts
+  first-idle : first .idle ≡ head-length ts
   first-idle = ap (λ (o : OffsetsOf). o .idle) (given .can .first-is)
 
   -- the first PV, or EN, is behind the ID records
@@ -91,23 +91,24 @@ module _ {bytes : List ℕ} {s : TaskSet} {h : ℕ} {many slack : List ℕ} {idl
     done = cycle-done are-bytes slots (given .can) f e
 
     -- where the offsets lie then
-    pub replay-at-ends : Ended (s .n) idles (first .idle) (f .idle) (run .wasted)
+    pub replay-at-ends : Ended (head-count-of (tasks-in kept)) idles (first .idle) (f .idle) (run .wasted)
     replay-at-ends = record {
-      few = given .can .fits .few;
+      few = omega (arith, given .can .keeps .few);
       short = omega (arith, inversions-behind, stand .short);
       idle-behind = omega (arith, first-idle, done .replays .idle-offset);
       wasted-behind = λ used some-wasted.
           let (q, bound, there, judged) =
-          judged-wasted stand (given .can .good) (done .replays) (done .wastes) (done .all) (omega (arith, inversions-behind)) (λ u. omega arith) in
+          judged-wasted stand (given .can .good) (done .replays) (done .keeps) (done .wastes) (done .all) (omega (arith, inversions-behind)) (λ u. omega arith) in
           omega (arith, inversions-behind, there);
     }
 
     -- and 19, or nothing, is told of them
-    pub replay-at-done : RefusalTold (rebuilt bytes) (unused-at (s .n) idles (first .idle) (f .idle) (run .wasted))
+    pub replay-at-done : RefusalTold (rebuilt bytes) (unused-at (head-count-of (tasks-in kept)) idles (first .idle) (f .idle) (run .wasted))
     unfolding unused-at
     replay-at-done =
         let good = given .can .good in
         let R = done .replays in
+        let K = done .keeps in
         let W = done .wastes in
         let all = done .all in
         let behind : ℕ = behind-idles (first .idle) idles in
@@ -117,20 +118,20 @@ module _ {bytes : List ℕ} {s : TaskSet} {h : ℕ} {many slack : List ℕ} {idl
         (λ used. rw (le-ltb idle behind used)
         (by-eq wasted last-offset
         (λ u. rw (le-ltb wasted last-offset (omega arith))
-        (accepted-so (run .entries) (judged-accepted stand good R W all (omega (arith, inversions-behind)) u)))
+        (accepted-so (run .entries) (judged-accepted stand good R K W all (omega (arith, inversions-behind)) u)))
         (λ u.
-        let (q, bound, there, judged) = judged-wasted stand good R W all (omega (arith, inversions-behind)) u in
+        let (q, bound, there, judged) = judged-wasted stand good R K W all (omega (arith, inversions-behind)) u in
         let low : wasted < last-offset = omega (arith, there, stand .short) in
-        let place : s .n + 1 + idles + (wasted - behind) / size PV ≡ suc (length ts) + length (X .idles) + q =
+        let place : head-count-of (tasks-in kept) + idles + (wasted - behind) / size PV ≡ head-count ts + length (X .idles) + q =
         omega (
           arith,
           quotient wasted behind q (size PV) (omega arith) (omega (arith, inversions-behind, there)),
-          given .can .fits .n-tasks,
+          given .can .keeps .n-tasks,
           given .idle-records,
         ) in
-        rw (lt-ltb wasted last-offset low, place) (refused-so 18 (suc (length ts) + length (X .idles) + q) judged))))
+        rw (lt-ltb wasted last-offset low, place) (refused-so 18 (head-count ts + length (X .idles) + q) judged))))
         (λ unused.
-        let (q, bound, there, judged) = judged-unused stand good R W all (omega (arith, inversions-behind)) in
-        let place : s .n + 1 + (idle - first .idle) / size ID ≡ suc (length ts) + q =
-        omega (arith, quotient idle (first .idle) q (size ID) (omega arith) (omega (arith, first-idle, there)), given .can .fits .n-tasks) in
-        rw (lt-ltb idle behind unused, place) (refused-so 18 (suc (length ts) + q) judged))
+        let (q, bound, there, judged) = judged-unused stand good R K W all (omega (arith, inversions-behind)) in
+        let place : head-count-of (tasks-in kept) + (idle - first .idle) / size ID ≡ head-count ts + q =
+        omega (arith, quotient idle (first .idle) q (size ID) (omega arith) (omega (arith, first-idle, there)), given .can .keeps .n-tasks) in
+        rw (lt-ltb idle behind unused, place) (refused-so 18 (head-count ts + q) judged))

@@ -10,43 +10,43 @@ use Rattle.rules.specs.declared.Layout.{Layout}
 use Rattle.rules.specs.declared.Refusal.{Refusal}
 use Rattle.rules.specs.declared.SetAnswer.the-variants as set-case
 use Rattle.rules.specs.Refusals.{gives, refuses, refusal}
-use Rattle.rules.specs.Tasks.{limits, hyperperiod, all-jobs, judge-set}
+use Rattle.rules.specs.Tasks.{limits, judge-set, memory-set}
 use Rattle.rules.specs.Setting.{Tables}
 use Rattle.rules.specs.Judging.{judge-tables}
 use Rattle.rules.specs.Framing.{frame}
 use Rattle.rules.specs.Offsets.{first-offsets}
 use Rattle.rules.specs.Operations.{read-tables, rebuilt}
 use Rattle.rules.specs.Dispatcher.{zero-task, zero-offsets}
+use Rattle.sets.specs.Kept.{Rows, Keeps, kept-of}
 use Rattle.framing.specs.SetRead.{set-read}
-use Rattle.replay.specs.Releases.{tasks-of}
 use Rattle.tables.specs.declared.Tables.{Tables as Judgement}
 
--- a framed image whose set is good
-pub record SetStands (bytes : List ℕ) (s : TaskSet) (f : Figures) (l : Layout) : Type 0 where
+-- a framed image whose set is good, and what is kept of the set
+pub record SetStands (bytes : List ℕ) (s : TaskSet) (kept : Rows) (l : Layout) : Type 0 where
   pub framed : frame 2 bytes ≡ gives l
   pub set-is : s ≡ set-read (l .tasks) bytes
-  pub good : set-case.Good f ≡ judge-set s
+  pub figures : Figures
+  pub good : set-case.Good figures ≡ judge-set s
+  pub kept-is : kept ≡ kept-of s figures
 
 -- beside a refusal all is zero
 abbrev pub refused-with : Refusal → Judgement
-refused-with r =
-    record { refusal = r; set = record { n = 0; tasks = replicate (limits .tasks) zero-task }; hyperperiod = 0; jobs = 0; first = zero-offsets }
+refused-with r = record { refusal = r; set = record { n = 0; tasks = replicate (limits .tasks) zero-task }; first = zero-offsets }
 
--- an accepted image: its set, with zero slots behind the tasks, its tables and the timetable behind them, its figures and its first offsets
-pub record Good (bytes : List ℕ) (t : Judgement) : Type 0 where
+-- an accepted image: its set, with zero slots behind the tasks, what is kept of it, its tables and the timetable behind them, and its first offsets
+pub record Good (bytes : List ℕ) (t : Judgement) (kept : Rows) : Type 0 where
   pub no-refusal : t .refusal ≡ refusal 0 0
   pub tables : Tables
   pub entries : List Entry
   pub few : t .set .n ≤ limits .tasks
-  pub tasks-many : length (tasks-of (t .set)) ≡ t .set .n
-  pub zero-slots : t .set .tasks ≡ tasks-of (t .set) ++ replicate (limits .tasks - t .set .n) zero-task
-  pub read : read-tables bytes ≡ gives (record { tasks = tasks-of (t .set); tables = tables })
-  pub judged : judge-tables (tasks-of (t .set)) tables ≡ gives entries
-  pub cycle : t .hyperperiod ≡ hyperperiod (tasks-of (t .set))
-  pub starts : t .jobs ≡ all-jobs (t .hyperperiod) (tasks-of (t .set))
-  pub offsets : t .first ≡ first-offsets (tasks-of (t .set)) tables
+  pub tasks-many : length (memory-set (t .set) .tasks) ≡ t .set .n
+  pub zero-slots : t .set .tasks ≡ memory-set (t .set) .tasks ++ replicate (limits .tasks - t .set .n) zero-task
+  pub read : read-tables bytes ≡ gives (record { set = memory-set (t .set); tables = tables })
+  pub judged : judge-tables (memory-set (t .set)) tables ≡ gives entries
+  pub keeps : Keeps (memory-set (t .set)) kept
+  pub offsets : t .first ≡ first-offsets (memory-set (t .set)) tables
 
 -- number 0 stands for no refusal
-pub record JudgedAs (bytes : List ℕ) (t : Judgement) : Type 0 where
+pub record JudgedAs (bytes : List ℕ) (t : Judgement) (kept : Rows) : Type 0 where
   pub refused : (t .refusal .number ≡ 0 → ⊥) → (rebuilt bytes ≡ refuses (t .refusal)) × (t ≡ refused-with (t .refusal))
-  pub good : t .refusal .number ≡ 0 → Good bytes t
+  pub good : t .refusal .number ≡ 0 → Good bytes t kept

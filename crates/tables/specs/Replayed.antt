@@ -9,9 +9,11 @@ use Rattle.rules.specs.declared.Offsets.{Offsets as OffsetsOf}
 use Rattle.rules.specs.declared.Refusal.{Refusal}
 use Rattle.rules.specs.Refusals.{Judged, refusal, refusal-in}
 use Rattle.rules.specs.Timetable.{pick}
-use Rattle.rules.specs.Marks.{ID, PV, size}
+use Rattle.rules.specs.Marks.{ID, PV, size, head-count-of}
 use Rattle.rules.specs.Offsets.{last-offset}
+use Rattle.rules.specs.Tasks.{limits}
 use Rattle.sets.specs.Sets.{FirstFault}
+use Rattle.sets.specs.Kept.{Rows}
 use Rattle.replay.specs.Runs.{CanReplay}
 
 -- the refusal that judging came to; number 0, at place 0, where there is none
@@ -24,19 +26,19 @@ abbrev pub behind-idles : ℕ → ℕ → ℕ
 behind-idles first idles = first + idles * size ID
 
 -- the offsets at which replay ended: none is before the first record of its kind, and all are of 32 bits
-pub record Ended (n idles first idle wasted : ℕ) : Type 0 where
-  pub few : n ≤ 16
+pub record Ended (before idles first idle wasted : ℕ) : Type 0 where
+  pub few : before ≤ head-count-of (limits .tasks)
   pub short : behind-idles first idles ≤ last-offset
   pub idle-behind : first ≤ idle
   pub wasted-behind : behind-idles first idles ≤ idle → wasted < last-offset → behind-idles first idles ≤ wasted
 
--- 19 at the first ID record that is left, else at the first PV record that had no effect
+-- 19 at the first ID record that is left, else at the first PV record that had no effect, with so many records before them all
 unfoldable pub unused-at : ℕ → ℕ → ℕ → ℕ → ℕ → Refusal
-unused-at n idles first idle wasted =
-    pick (ltb idle (behind-idles first idles)) (refusal 19 (n + 1 + (idle - first) / size ID))
-    (pick (ltb wasted last-offset) (refusal 19 (n + 1 + idles + (wasted - behind-idles first idles) / size PV)) (refusal 0 0))
+unused-at before idles first idle wasted =
+    pick (ltb idle (behind-idles first idles)) (refusal 19 (before + (idle - first) / size ID))
+    (pick (ltb wasted last-offset) (refusal 19 (before + idles + (wasted - behind-idles first idles) / size PV)) (refusal 0 0))
 
 -- what may be replayed, and how many ID records its tables have
-pub record CanCompare (bytes : List ℕ) (s : TaskSet) (h : ℕ) (many slack : List ℕ) (idles : ℕ) (first : OffsetsOf) : Type 0 where
-  pub can : CanReplay bytes s h many slack first
+pub record CanCompare (bytes : List ℕ) (s : TaskSet) (kept : Rows) (idles : ℕ) (first : OffsetsOf) : Type 0 where
+  pub can : CanReplay bytes s kept first
   pub idle-records : idles ≡ length (can .tables .idles)

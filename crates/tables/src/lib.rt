@@ -2,41 +2,40 @@
 use decision::LAST_OFFSET;
 use decision::NextStart;
 use framing::FrameAnswer;
-use images::ID;
-use images::PV;
-use images::ROWS;
+use images::IDLE_SIZE;
+use images::INVERSION_SIZE;
 use rules::CheckAnswer;
-use rules::Figures;
 use rules::Layout;
 use rules::Offsets;
 use rules::Refusal;
 use rules::SetAnswer;
 use rules::Task;
 use rules::TaskSet;
+use sets::FIGURES;
+use sets::TASKS;
 ghost use mathlib.Core.Path.{_≡_};
-ghost use Rattle.rules.specs.Tasks.{all-jobs};
 ghost use Rattle.rules.specs.Operations.{rebuilt, check-tables};
-ghost use Rattle.replay.specs.Releases.{tasks-of};
 ghost use Rattle.tables.specs.Replayed.{RefusalTold, Ended, unused-at, CanCompare};
 ghost use Rattle.tables.specs.Judged.{SetStands, refused-with, JudgedAs};
 
-// 19 at the first ID record that is left, else at the first PV record that had no effect. Number 0 where there is none.
-fn unused(n: usize, idles: usize, first: u32, idle: u32, wasted: u32) -> Refusal
-    requires { ⌜ Ended n idles first idle wasted ⌝ }
-    ensures { λ r. ⌜ r ≡ unused-at n idles first idle wasted ⌝ }
+// 19 at the first ID record that is left, else at the first PV record that had no effect, with so many records before them all. Number 0 where there is
+// none.
+fn unused(before: usize, idles: usize, first: u32, idle: u32, wasted: u32) -> Refusal
+    requires { ⌜ Ended before idles first idle wasted ⌝ }
+    ensures { λ r. ⌜ r ≡ unused-at before idles first idle wasted ⌝ }
 {
     let from = first as usize;
-    let inversions = from + idles * (ROWS[ID].body + 2);
+    let inversions = from + idles * IDLE_SIZE;
     if (idle as usize) < inversions {
         return Refusal {
             number: 19,
-            place: n + 1 + (idle as usize - from) / (ROWS[ID].body + 2),
+            place: before + (idle as usize - from) / IDLE_SIZE,
         };
     }
     if wasted < LAST_OFFSET {
         return Refusal {
             number: 19,
-            place: n + 1 + idles + (wasted as usize - inversions) / (ROWS[PV].body + 2),
+            place: before + idles + (wasted as usize - inversions) / INVERSION_SIZE,
         };
     }
     Refusal {
@@ -49,37 +48,30 @@ fn unused(n: usize, idles: usize, first: u32, idle: u32, wasted: u32) -> Refusal
 fn replay_fault(
     image: &[u8],
     s: TaskSet,
-    h: u32,
-    jobs: &[u32; 16],
-    slack: &[u32; 16],
+    kept: &[[u32; 16]; 5],
     idles: usize,
     first: Offsets,
-    all: usize,
 ) -> Refusal
-    requires can { ⌜ CanCompare (now image) s h (now jobs) (now slack) idles first ⌝ }
-    requires all { ⌜ all ≡ all-jobs h (tasks-of s) ⌝ }
+    requires { ⌜ CanCompare (now image) s (now kept) idles first ⌝ }
     ensures { λ r. ⌜ RefusalTold (rebuilt (now (image .entry))) r ⌝ }
 {
-    let n = s.n as usize;
+    let before = images::head_count(kept[FIGURES][TASKS] as usize);
     let mut nowhere = [0u8; 0];
-    let run = replay::cycle(image, s, h, jobs, slack, first, all, &mut nowhere, 0);
+    let run = replay::cycle(image, s, kept, first, &mut nowhere, 0);
     let last = run.last;
     match last {
         NextStart::Stuck(_) => Refusal {
             number: 18,
             place: run.made,
         },
-        NextStart::Starts(f) => unused(n, idles, first.idle, f.idle, run.wasted),
+        NextStart::Starts(f) => unused(before, idles, first.idle, f.idle, run.wasted),
     }
 }
 
-// What a table image comes to: a refusal, with number 0 for none; and the set, its hyperperiod, its jobs a cycle and the offsets as at a cycle's
-// start, all zero where the image is refused.
+// What a table image comes to: a refusal, with number 0 for none; and the set and the offsets as at a cycle's start, all zero where the image is refused.
 pub struct Tables {
     pub refusal: Refusal,
     pub set: TaskSet,
-    pub hyperperiod: u32,
-    pub jobs: u32,
     pub first: Offsets,
 }
 
@@ -102,59 +94,46 @@ fn refused(refusal: Refusal) -> Tables
     Tables {
         refusal,
         set,
-        hyperperiod: 0,
-        jobs: 0,
         first,
     }
 }
 
 // 17, 18 and 19 of a framed image with a good set.
-fn judge_records(image: &[u8], set: TaskSet, f: Figures, l: Layout) -> Tables
-    requires { ⌜ SetStands (now image) set f l ⌝ }
-    ensures { λ t. ⌜ JudgedAs (now (image .entry)) t ⌝ }
+fn judge_records(image: &[u8], set: TaskSet, kept: &[[u32; 16]; 5], l: Layout) -> Tables
+    requires { ⌜ SetStands (now image) set (now kept) l ⌝ }
+    ensures { λ t. ⌜ JudgedAs (now (image .entry)) t (now (kept .entry)) ⌝ }
 {
-    let n = set.n as usize;
-    let h = f.hyperperiod;
-    let jobs = records::jobs_of(h, set);
-    let slack = records::slack_of(set);
-    let fault = records::records_fault(image, n, h, &jobs, &slack, l.listed, l.inversions);
+    let fault = records::records_fault(image, kept, l.listed, l.inversions);
     if fault.number != 0 {
         return refused(fault);
     }
+    let n = set.n as usize;
     let first = records::first_offsets(image, n, l.listed, l.inversions);
-    let refusal = replay_fault(
-        image,
-        set,
-        h,
-        &jobs,
-        &slack,
-        l.listed,
-        first,
-        f.jobs as usize,
-    );
+    let refusal = replay_fault(image, set, kept, l.listed, first);
     if refusal.number != 0 {
         return refused(refusal);
     }
     Tables {
         refusal,
         set,
-        hyperperiod: h,
-        jobs: f.jobs,
         first,
     }
 }
 
-// A table image judged.
-pub fn judge(image: &[u8]) -> Tables
-    ensures { λ t. ⌜ JudgedAs (now (image .entry)) t ⌝ }
+// A table image judged. What is kept of its set is filled in where it is good.
+pub fn judge(image: &[u8], kept: &mut [[u32; 16]; 5]) -> Tables
+    ensures { λ t. ⌜ JudgedAs (now (image .entry)) t (now (kept .exit)) ⌝ }
 {
-    match framing::frame(image, 2) {
+    match framing::frame(image) {
         FrameAnswer::Refused(refusal) => refused(refusal),
         FrameAnswer::Framed(l) => {
             let set = framing::read_set(image, l.tasks);
             match sets::judge_set(set) {
                 SetAnswer::Refused(refusal) => refused(refusal),
-                SetAnswer::Good(f) => judge_records(image, set, f, l),
+                SetAnswer::Good(f) => {
+                    *kept = sets::keep(set, f);
+                    judge_records(image, set, kept, l)
+                }
             }
         }
     }
@@ -164,7 +143,8 @@ pub fn judge(image: &[u8]) -> Tables
 pub fn check(image: &[u8]) -> CheckAnswer
     ensures { λ r. ⌜ r ≡ check-tables (now (image .entry)) ⌝ }
 {
-    let t = judge(image);
+    let mut kept = [[0u32; 16]; 5];
+    let t = judge(image, &mut kept);
     if t.refusal.number != 0 {
         let r = t.refusal;
         return CheckAnswer::Refused(r);

@@ -17,12 +17,12 @@ use Rattle.rules.specs.declared.Entry.{Entry}
 use Rattle.rules.specs.Setting.{Setting}
 use Rattle.rules.specs.Priority.{start-job, setting-of}
 use Rattle.rules.specs.Irregularities.{forced-idles, inversions}
-use Rattle.rules.specs.Marks.{SL, size}
+use Rattle.rules.specs.Marks.{SL, size, head-length-of}
+use Rattle.rules.specs.Tasks.{memory-set}
 use Rattle.rules.proofs.Cases.{by-eq}
 use Rattle.rules.proofs.PriorityLaws.{StartKeepsRules}
-use Rattle.framing.specs.SetRead.{tasks-offset}
 use Rattle.timetables.specs.Entries.{entry-in, entries-at}
-use Rattle.timetables.specs.Judged.{tasks-of, entries-behind}
+use Rattle.timetables.specs.Judged.{entries-behind}
 use Rattle.timetables.specs.Instants.{least-of, some-by}
 use Rattle.timetables.specs.Counted.{tables-of, task-inversions, Counted}
 use Rattle.timetables.proofs.EntriesRead.{entry-left, no-entry-left}
@@ -31,14 +31,14 @@ use Rattle.timetables.proofs.Turns.{AtEntry, turn-task, turn-idle, turn
 -- what is counted before entry j, and what the entries from j on add
 pub record CountedFrom (bytes : List ℕ) (s : TaskSet) (h : ℕ) (next : List ℕ) (free at j idles total : ℕ) (each : List ℕ) : Type 0 where
   pub idles-left : (listed : ℕ) → j ≤ listed →
-      idles + length (forced-idles (setting-of (tasks-of s) h) next free (entries-at bytes at (listed - j)))
-      ≡ length (tables-of (tasks-of s) h (entries-behind bytes s listed) .idles)
+      idles + length (forced-idles (setting-of (memory-set s) h) next free (entries-at bytes at (listed - j)))
+      ≡ length (tables-of (memory-set s) h (entries-behind bytes s listed) .idles)
   pub total-left : (listed : ℕ) → j ≤ listed →
-      total + length (inversions (setting-of (tasks-of s) h) next (entries-at bytes at (listed - j)))
-      ≡ length (tables-of (tasks-of s) h (entries-behind bytes s listed) .inversions)
+      total + length (inversions (setting-of (memory-set s) h) next (entries-at bytes at (listed - j)))
+      ≡ length (tables-of (memory-set s) h (entries-behind bytes s listed) .inversions)
   pub each-left : (listed : ℕ) → j ≤ listed → (i : ℕ) →
-      getD each i 0 + length (task-inversions (setting-of (tasks-of s) h) i next (entries-at bytes at (listed - j)))
-      ≡ length (task-inversions (setting-of (tasks-of s) h) i [] (entries-behind bytes s listed))
+      getD each i 0 + length (task-inversions (setting-of (memory-set s) h) i next (entries-at bytes at (listed - j)))
+      ≡ length (task-inversions (setting-of (memory-set s) h) i [] (entries-behind bytes s listed))
 
 -- a slot of zeros holds 0
 pub zero-slot : (many i : ℕ) → _≡_ {A = ℕ} (getD (replicate many 0) i 0) 0
@@ -47,7 +47,7 @@ zero-slot (suc many) zero = refl
 zero-slot (suc many) (suc i) = zero-slot many i
 
 -- before the first entry nothing is counted
-pub counted-first : {bytes : List ℕ} {s : TaskSet} {h at : ℕ} → at ≡ tasks-offset (s .n) → CountedFrom bytes s h [] 0 at 0 0 0 (replicate 16 0)
+pub counted-first : {bytes : List ℕ} {s : TaskSet} {h at : ℕ} → at ≡ head-length-of (s .n) → CountedFrom bytes s h [] 0 at 0 0 0 (replicate 16 0)
 counted-first place = record {
   idles-left = λ listed l. rw (place, sub-zero listed) (omega arith);
   total-left = λ listed l. rw (place, sub-zero listed) (omega arith);
@@ -114,10 +114,10 @@ module _ {bytes : List ℕ} {s : TaskSet} {h : ℕ} {next : List ℕ} {free at j
     (c : CountedFrom bytes s h next free at j idles total each) where
   -- the set's setting
   abbrev G : Setting
-  G = setting-of (tasks-of s) h
+  G = setting-of (memory-set s) h
 
   -- where no more are listed all is counted
-  pub counted-all : length each ≡ 16 → Counted (tasks-of s) h (entries-behind bytes s j) (record { idles = idles; inversions = total; each = each })
+  pub counted-all : length each ≡ 16 → Counted (memory-set s) h (entries-behind bytes s j) (record { idles = idles; inversions = total; each = each })
   counted-all slots =
       let none = no-entry-left bytes at j j (omega arith) in
       record {
@@ -128,7 +128,7 @@ module _ {bytes : List ℕ} {s : TaskSet} {h : ℕ} {next : List ℕ} {free at j
       }
 
   module _ {releases : List ℕ} (w : AtEntry bytes s h releases next at j) (slots : length each ≡ 16) (e : Entry) (is : e ≡ entry-in bytes at)
-      (d : Task) (keeps : StartKeepsRules (tasks-of s) h next free (e .task) (e .start)) where
+      (d : Task) (keeps : StartKeepsRules (memory-set s) h next free (e .task) (e .start)) where
     -- what has started after the entry
     abbrev next-after : List ℕ
     next-after = start-job next (e .task)
@@ -147,13 +147,13 @@ module _ {bytes : List ℕ} {s : TaskSet} {h : ℕ} {next : List ℕ} {free at j
 
     -- what is counted, with this entry and those behind it: forced idles
     idles-here : (listed : ℕ) → j < listed → idles + length (forced-idles G next free (e ∷ others listed))
-        ≡ length (tables-of (tasks-of s) h (entries-behind bytes s listed) .idles)
+        ≡ length (tables-of (memory-set s) h (entries-behind bytes s listed) .idles)
     idles-here listed more =
         sym (ap (λ (σ : List Entry). idles + length (forced-idles G next free σ)) (left-here listed more)) ∙ c .idles-left listed (omega arith)
 
     -- all inversions
     total-here : (listed : ℕ) → j < listed → total + length (inversions G next (e ∷ others listed))
-        ≡ length (tables-of (tasks-of s) h (entries-behind bytes s listed) .inversions)
+        ≡ length (tables-of (memory-set s) h (entries-behind bytes s listed) .inversions)
     total-here listed more =
         sym (ap (λ (σ : List Entry). total + length (inversions G next σ)) (left-here listed more)) ∙ c .total-left listed (omega arith)
 
@@ -167,7 +167,7 @@ module _ {bytes : List ℕ} {s : TaskSet} {h : ℕ} {next : List ℕ} {free at j
     -- with its forced idle counted, the others are left
     idles-after : (idle : Bool) → idle ≡ ltb (max free (least-of (take (s .n) releases))) (e .start) → (idles′ : ℕ) → IdleCounted idle idles idles′ →
         (listed : ℕ) → j < listed → idles′ + length (forced-idles G next-after free-after (others listed))
-        ≡ length (tables-of (tasks-of s) h (entries-behind bytes s listed) .idles)
+        ≡ length (tables-of (memory-set s) h (entries-behind bytes s listed) .idles)
     idles-after idle idle-is idles′ (inl q) listed more =
         let t = max free (least-of (take (s .n) releases)) in
         let later = ltb-true t (e .start) (sym idle-is ∙ q .0) in
@@ -180,7 +180,7 @@ module _ {bytes : List ℕ} {s : TaskSet} {h : ℕ} {next : List ℕ} {free at j
     module _ (lower : Bool) (lower-is : lower ≡ some-by (e .start) (take (e .task) releases)) (total′ : ℕ) (each′ : List ℕ) where
       -- with its inversion counted, the others are left
       total-after : InversionCounted lower (e .task) total total′ each each′ → (listed : ℕ) → j < listed →
-          total′ + length (inversions G next-after (others listed)) ≡ length (tables-of (tasks-of s) h (entries-behind bytes s listed) .inversions)
+          total′ + length (inversions G next-after (others listed)) ≡ length (tables-of (memory-set s) h (entries-behind bytes s listed) .inversions)
       total-after (inl q) listed more = omega (arith, total-here listed more, one-more w e d keeps (others listed) (sym lower-is ∙ q .0), q .1)
       total-after (inr q) listed more = omega (arith, total-here listed more, no-more w e d keeps (others listed) (sym lower-is ∙ q .0), q .1)
 

@@ -9,15 +9,14 @@ use Rattle.fields.specs.Number.{Bytes}
 use Rattle.rules.specs.declared.Layout.{Layout}
 use Rattle.rules.specs.Refusals.{gives}
 use Rattle.rules.specs.Tasks.{limits}
-use Rattle.rules.specs.Marks.{TS, TK, SL, EN, size}
+use Rattle.rules.specs.Marks.{TS, TK, SL, EN, size, head-length-of}
 use Rattle.rules.specs.Image.{to-task, to-entry}
-use Rattle.rules.specs.Framing.{frame, read, behind-tasks, tasks-in, entries-in}
+use Rattle.rules.specs.Framing.{frame, read, behind-tasks, set-in, entries-in}
 use Rattle.rules.specs.Operations.{Timed, read-timetable}
 use Rattle.rules.proofs.Arrays.{read-length}
 use Rattle.rules.proofs.Held.{behind-tasks-drop}
 use Rattle.rules.proofs.Images.{framed-timetable, timetable-image-length}
 use Rattle.images.proofs.BodyLaws.{entry-body-is}
-use Rattle.framing.specs.SetRead.{tasks-offset}
 use Rattle.timetables.specs.Entries.{entry-in, entries-at}
 
 module _ (bytes : List ℕ) (at listed j : ℕ) where
@@ -51,19 +50,19 @@ entries-are bytes at (suc many) h =
 pub record Spans (bytes : List ℕ) (l : Layout) : Type 0 where
   pub some-tasks : 1 ≤ l .tasks
   pub few-tasks : l .tasks ≤ limits .tasks
-  pub long : length bytes ≡ tasks-offset (l .tasks) + l .listed * size SL + size EN
+  pub long : length bytes ≡ head-length-of (l .tasks) + l .listed * size SL + size EN
 
 module _ (bytes : List ℕ) (l : Layout) (b : Bytes bytes) (framed : frame 1 bytes ≡ gives l) where
   -- what the image holds
   abbrev held : Timed
-  held = record { tasks = tasks-in l bytes; entries = entries-in l bytes }
+  held = record { set = set-in l bytes; entries = entries-in l bytes }
 
   -- is what is read of it
   timetable-read : read-timetable bytes ≡ gives held
   timetable-read = rw framed
 
   -- it has as many tasks and entries as its layout says
-  pub tasks-many : length (tasks-in l bytes) ≡ l .tasks
+  pub tasks-many : length (set-in l bytes .tasks) ≡ l .tasks
   tasks-many = length-map (read TK (l .tasks) (drop (size TS) bytes)) to-task ∙ read-length TK (l .tasks) (drop (size TS) bytes)
 
   -- and as many entries
@@ -77,12 +76,12 @@ module _ (bytes : List ℕ) (l : Layout) (b : Bytes bytes) (framed : frame 1 byt
       record {
         some-tasks = omega (arith, w .0 .some-tasks, tasks-many);
         few-tasks = omega (arith, w .0 .few-tasks, tasks-many);
-        long = ap length (w .1) ∙ timetable-image-length (tasks-in l bytes) (entries-in l bytes) ∙ omega (arith, tasks-many, entries-many);
+        long = ap length (w .1) ∙ timetable-image-length (set-in l bytes) (entries-in l bytes) ∙ omega (arith, tasks-many, entries-many);
       }
 
   -- its entries stand at their places behind the tasks
-  pub entries-framed : entries-at bytes (tasks-offset (l .tasks)) (l .listed) ≡ entries-in l bytes
+  pub entries-framed : entries-at bytes (head-length-of (l .tasks)) (l .listed) ≡ entries-in l bytes
   entries-framed =
-      entries-are bytes (tasks-offset (l .tasks)) (l .listed) (omega (arith, spans .long))
+      entries-are bytes (head-length-of (l .tasks)) (l .listed) (omega (arith, spans .long))
       ∙ ap (λ (rest : List ℕ). map to-entry (read SL (l .listed) rest))
       (sym (behind-tasks-drop l bytes))

@@ -1,12 +1,12 @@
 -- A timetable image judged: by framing, then by its set, then by its entries. Assumes nothing.
-use mathlib.Core.Path.{_≡_, refl, sym, _∙_, ap, ap₂}
+use mathlib.Core.Path.{_≡_, refl, sym, _∙_, ap}
 use mathlib.Core.Logic.{_⊎_}
 use mathlib.Core.Bool.{Bool, true}
 use mathlib.Core.List.{List}
 use mathlib.Core.Option.{none, some}
-use Prim.Native.Nat.{ℕ, suc, _+_, _*_, _≤_, _<_}
+use Prim.Native.Nat.{ℕ, _+_, _*_, _≤_, _<_}
 use native.Mathlib.Omega.{arith}
-use lib.ListN.{length, take}
+use lib.ListN.{length}
 use borrow.Author.Tests.{le-leb}
 use Rattle.fields.specs.Number.{Bytes}
 use Rattle.rules.specs.declared.TaskSet.{TaskSet}
@@ -17,9 +17,9 @@ use Rattle.rules.specs.declared.Refusal.{Refusal}
 use Rattle.rules.specs.declared.SetAnswer.the-variants as set-case
 use Rattle.rules.specs.declared.CheckAnswer.the-variants as check-case
 use Rattle.rules.specs.Refusals.{gives, refuses, refusal}
-use Rattle.rules.specs.Tasks.{few-enough, set-fault, judge-set}
-use Rattle.rules.specs.Marks.{SL, row, size}
-use Rattle.rules.specs.Framing.{frame, tasks-in, entries-in}
+use Rattle.rules.specs.Tasks.{few-enough, set-fault, judge-set, memory-set, Set}
+use Rattle.rules.specs.Marks.{SL, row, size, head-count-of, head-length-of}
+use Rattle.rules.specs.Framing.{frame, set-in, entries-in}
 use Rattle.rules.specs.Operations.{read-timetable, derived, check-answer, check-timetable}
 use Rattle.rules.proofs.Cases.{both-in}
 use Rattle.rules.proofs.GoodSets.{set-good}
@@ -30,14 +30,14 @@ use Rattle.framing.specs.declared.FrameAnswer.{FrameAnswer}
 use Rattle.framing.specs.declared.FrameAnswer.the-variants as frame-case
 use Rattle.framing.specs.declared.TasksAnswer.{TasksAnswer}
 use Rattle.framing.specs.declared.TasksAnswer.the-variants as tasks-case
-use Rattle.framing.specs.SetRead.{tasks-offset, set-read}
+use Rattle.framing.specs.SetRead.{set-read}
 use Rattle.framing.specs.Frames.{TasksFramed, Reached, BehindTasks, frame-answer}
 use Rattle.framing.proofs.RoomLaws.{tasks-framed}
 use Rattle.framing.proofs.Promises.{framed-is, refused-is}
 use Rattle.timetables.specs.declared.Timetable.{Timetable}
 use Rattle.timetables.specs.declared.Walk.{Walk}
 use Rattle.timetables.specs.Entries.{entries-at}
-use Rattle.timetables.specs.Judged.{tasks-of, entries-behind, fault-behind, EntriesStand, Walked, refused-with, Good, JudgedAs}
+use Rattle.timetables.specs.Judged.{entries-behind, fault-behind, EntriesStand, Walked, refused-with, Good, JudgedAs}
 use Rattle.timetables.proofs.EntriesRead.{Spans, spans, tasks-many, entries-framed}
 use Rattle.timetables.proofs.PlacesReached.{Stood, reached-at, framed-tasks, all-listed, more-listed}
 
@@ -75,7 +75,7 @@ unfolding set-read
 set-many n bytes = refl
 
 -- the tasks before the place behind them stand in the image
-pub tasks-inside : (bytes : List ℕ) (p : Place) → Reached 1 bytes p → BehindTasks bytes p → (p .tasks ≤ 16) × (tasks-offset (p .tasks) ≤ length bytes)
+pub tasks-inside : (bytes : List ℕ) (p : Place) → Reached 1 bytes p → BehindTasks bytes p → (p .tasks ≤ 16) × (head-length-of (p .tasks) ≤ length bytes)
 tasks-inside bytes p re behind = (behind .few, omega (arith, re .placed .inside, behind .offset))
 
 -- the set behind whose tasks framing has come to a place
@@ -89,7 +89,7 @@ module _ (bytes : List ℕ) (b : Bytes bytes) (p : Place) (re : Reached 1 bytes 
   pub set-stands : (f : Figures) → set-case.Good f ≡ judge-set s → EntriesStand bytes s (f .hyperperiod) 0
   set-stands f e =
       let g = good-exactly s (set-case.Good f) e f .0 refl in
-      let h = set-good (tasks-of s) (f .hyperperiod) (g .good) in
+      let h = set-good (memory-set s) (f .hyperperiod) (g .good) in
       record { few = g .few-tasks; good = h .0; cycle = h .1; inside = omega (arith, many, tasks-inside bytes p re behind .1) }
 
   -- where the image is framed with its tasks
@@ -103,16 +103,16 @@ module _ (bytes : List ℕ) (b : Bytes bytes) (p : Place) (re : Reached 1 bytes 
     its-many = omega (arith, many, same)
 
     -- its tasks are the set's
-    its-tasks : tasks-of s ≡ tasks-in l bytes
+    its-tasks : memory-set s ≡ set-in l bytes
     its-tasks =
         let s-is : s ≡ set-read (l .tasks) bytes = is ∙ ap (λ (n : ℕ). set-read n bytes) (sym same) in
-        ap₂ take its-many (ap (λ (x : TaskSet). x .tasks) s-is) ∙ tasks-framed 1 bytes l framed
+        ap memory-set s-is ∙ tasks-framed 1 bytes l framed
 
     -- it is read as this set and the entries behind it
-    read-so : read-timetable bytes ≡ gives (record { tasks = tasks-of s; entries = entries-behind bytes s (l .listed) })
+    read-so : read-timetable bytes ≡ gives (record { set = memory-set s; entries = entries-behind bytes s (l .listed) })
     read-so =
         let its-entries : entries-behind bytes s (l .listed) ≡ entries-in l bytes =
-        ap (λ (n : ℕ). entries-at bytes (tasks-offset n) (l .listed)) its-many ∙ entries-framed bytes l b framed in
+        ap (λ (n : ℕ). entries-at bytes (head-length-of n) (l .listed)) its-many ∙ entries-framed bytes l b framed in
         rw (framed, its-tasks, its-entries)
 
     -- a fault of the set refuses it
@@ -120,11 +120,11 @@ module _ (bytes : List ℕ) (b : Bytes bytes) (p : Place) (re : Reached 1 bytes 
     by-set t r e t-is =
         let few : few-enough (s .n) ≡ true =
         both-in _ _ (le-leb 1 (s .n) (omega (arith, its-many, span .some-tasks))) (le-leb (s .n) 16 (omega (arith, its-many, span .few-tasks))) in
-        let fault : set-fault (tasks-of s) ≡ some r = rw few at (refused-fault s r e) in
+        let fault : set-fault (memory-set s) ≡ some r = rw few at (refused-fault s r e) in
         judged-refused bytes count t r (rw (read-so, fault)) t-is
 
     -- or one of its entries
-    by-fault : set-fault (tasks-of s) ≡ none → (t : Timetable) (r : Refusal) → fault-behind bytes s (l .listed) ≡ some r → t ≡ refused-with r →
+    by-fault : set-fault (memory-set s) ≡ none → (t : Timetable) (r : Refusal) → fault-behind bytes s (l .listed) ≡ some r → t ≡ refused-with r →
         JudgedAs bytes count t
     by-fault good t r fault t-is = judged-refused bytes count t r (rw (read-so, good, fault)) t-is
 
@@ -138,7 +138,7 @@ module _ (bytes : List ℕ) (b : Bytes bytes) (p : Place) (re : Reached 1 bytes 
   -- or good, and its entries are walked over
   module _ (count : Bool) (f : Figures) (e : set-case.Good f ≡ judge-set s) (w : Walk) (walked : Walked bytes s (f .hyperperiod) count w) where
     -- the walk stops behind its entries
-    here : w .at ≡ tasks-offset (p .tasks) + w .entries * size SL
+    here : w .at ≡ head-length-of (p .tasks) + w .entries * size SL
     here = rw (← many) (walked .place)
 
     -- all of them are SL records
@@ -146,13 +146,13 @@ module _ (bytes : List ℕ) (b : Bytes bytes) (p : Place) (re : Reached 1 bytes 
     stood i l = rw (← many) (walked .stood i l)
 
     -- so many entries come before the end of the image
-    pub few-entries : tasks-offset (p .tasks) + w .entries * size SL ≤ length bytes
+    pub few-entries : head-length-of (p .tasks) + w .entries * size SL ≤ length bytes
     few-entries = omega (arith, here, walked .inside)
 
     -- the place where the walk stops
     abbrev place-at : ℕ → Place
     place-at rank = record {
-      index = p .tasks + 1 + w .entries;
+      index = p .index + w .entries;
       offset = w .at;
       rank = rank;
       due = 0;
@@ -182,12 +182,12 @@ module _ (bytes : List ℕ) (b : Bytes bytes) (p : Place) (re : Reached 1 bytes 
       refuses-with t r fault t-is = by-fault count l frames same-tasks (set-stands f e .good) t r fault t-is
 
       -- an entry breaks a rule
-      pub judged-by-entry : (t : Timetable) → (w .number ≡ 0 → ⊥) → t ≡ refused-with (refusal (w .number) (p .tasks + 1 + w .entries)) →
+      pub judged-by-entry : (t : Timetable) → (w .number ≡ 0 → ⊥) → t ≡ refused-with (refusal (w .number) (p .index + w .entries)) →
           JudgedAs bytes count t
       judged-by-entry t z t-is =
-          let at : p .tasks + 1 + w .entries ≡ suc (s .n + w .entries) = omega (arith, many) in
+          let at : p .index + w .entries ≡ head-count-of (s .n) + w .entries = omega (arith, many, behind .index) in
           let more : w .entries < l .listed = more-listed bytes p re behind (w .entries) stood l frames (rw (← here) (walked .one-more z)) in
-          refuses-with t (refusal (w .number) (p .tasks + 1 + w .entries)) (rw at (walked .broken z (l .listed) more)) t-is
+          refuses-with t (refusal (w .number) (p .index + w .entries)) (rw at (walked .broken z (l .listed) more)) t-is
 
       module _ (z : w .number ≡ 0) where
         -- the walk has passed all entries that are listed
@@ -208,7 +208,7 @@ module _ (bytes : List ℕ) (b : Bytes bytes) (p : Place) (re : Reached 1 bytes 
               good = λ _. record {
                 no-refusal = refl;
                 set-is = is ∙ ap (λ (n : ℕ). set-read n bytes) (sym many);
-                tasks-many = ap length (its-tasks count l frames same-tasks) ∙ tasks-many bytes l b frames ∙ same-tasks ∙ sym many;
+                tasks-many = ap (λ (ts : Set). length (ts .tasks)) (its-tasks count l frames same-tasks) ∙ tasks-many bytes l b frames ∙ same-tasks ∙ sym many;
                 stand = record {
                   few = stands .few;
                   good = stands .good;

@@ -12,13 +12,14 @@ use borrow.Author.Tests.{lt-ltb, le-ltb, ltb-false, leb-true, leb-false, le-leb,
 use Rattle.fields.specs.Body.{head₀, tail₀}
 use Rattle.rules.specs.declared.Task.{Task}
 use Rattle.rules.specs.declared.Entry.{Entry}
-use Rattle.rules.specs.Tasks.{task, release, no-task, KeepsItsRule}
+use Rattle.rules.specs.Tasks.{Set, task, release, no-task, KeepsItsRule}
 use Rattle.rules.specs.Setting.{instant}
-use Rattle.rules.specs.Priority.{slot, start-job, least-release, waiting, by-priority, setting-of}
+use Rattle.rules.specs.Priority.{slot, start-job, least-release, waiting, setting-of}
 use Rattle.rules.specs.Irregularities.{runs, forced-idles}
 use Rattle.rules.proofs.Cases.{by-bool, by-le, differ}
-use Rattle.rules.proofs.PriorityLaws.{StartKeepsRules, least-below}
-use Rattle.rules.proofs.ForcedIdle.{released-in-cycle, no-gap, whole-gap}
+use Rattle.rules.proofs.PriorityLaws.{StartKeepsRules, least-below, never-waits}
+use Rattle.rules.proofs.Gaps.{no-gap, whole-gap}
+use Rattle.rules.proofs.ForcedIdle.{released-in-cycle}
 use Rattle.rules.proofs.Inversions.{lower-waits, not-run, next-waits}
 use Rattle.timetables.specs.Walks.{next-releases}
 use Rattle.timetables.specs.Instants.{never, least-of, some-by}
@@ -84,44 +85,44 @@ some-in s rs i k lt l come =
     by-bool (some-by s (take i rs)) (λ b. b)
     (λ b. absurd (omega (arith, none-found s (take i rs) b k (omega (arith, length-take i rs)), getD-take i rs k 0 lt)))
 
-module _ (ts : List Task) (h : ℕ) (x : List ℕ) (left : LeftByRelease h ts) where
+module _ (ts : Set) (h : ℕ) (x : List ℕ) (left : LeftByRelease h (ts .tasks)) where
   -- a task whose next release has come in the cycle is waiting, and no other
-  waits-by : (s i : ℕ) → s < h → i < length ts → waiting ts h x s i ≡ leb (getD (next-releases ts x) i 0) s
+  waits-by : (s i : ℕ) → s < h → i < length (ts .tasks) → waiting ts h x s i ≡ leb (getD (next-releases (ts .tasks) x) i 0) s
   waits-by s i lt a-task =
       let same = left i a-task (slot x i) in
-      rw (release-in-slot ts x i no-task a-task, same)
+      rw (release-in-slot (ts .tasks) x i no-task a-task, same)
       (by-bool (ltb (release (task ts i) (slot x i)) h) (λ b. rw b)
       (λ b. rw b (sym (lt-leb (release (task ts i) (slot x i)) s (omega (arith, ltb-false (release (task ts i) (slot x i)) h b))))))
 
   -- the instant of decision, where a job is left
-  pub instant-is : (f : ℕ) → h ≤ never → least-release h ts x < h → max f (least-of (next-releases ts x)) ≡ instant (setting-of ts h) x f
-  instant-is f le lt = omega (arith, least-next h ts x le left)
+  pub instant-is : (f : ℕ) → h ≤ never → least-release h (ts .tasks) x < h → max f (least-of (next-releases (ts .tasks) x)) ≡ instant (setting-of ts h) x f
+  instant-is f le lt = omega (arith, least-next h (ts .tasks) x le left)
 
-  module _ (s i : ℕ) (lt : s < h) (a-task : i < length ts) where
+  module _ (s i : ℕ) (lt : s < h) (a-task : i < length (ts .tasks)) where
     -- where a lower task's release has come, the baseline does not run the task
-    pub lower-inverts : some-by s (take i (next-releases ts x)) ≡ true → runs (by-priority ts h x s) i ≡ false
+    pub lower-inverts : some-by s (take i (next-releases (ts .tasks) x)) ≡ true → runs (setting-of ts h .baseline x s) i ≡ false
     lower-inverts e =
-        let f = some-found s (take i (next-releases ts x)) e in
-        let lo : f .0 < i = omega (arith, f .1, length-take i (next-releases ts x)) in
-        let by = rw (getD-take i (next-releases ts x) (f .0) 0 lo) at (f .2) in
+        let f = some-found s (take i (next-releases (ts .tasks) x)) e in
+        let lo : f .0 < i = omega (arith, f .1, length-take i (next-releases (ts .tasks) x)) in
+        let by = rw (getD-take i (next-releases (ts .tasks) x) (f .0) 0 lo) at (f .2) in
         not-run ts h x s i a-task (f .0) lo (waits-by s (f .0) lt (omega arith) ∙ le-leb _ s by)
 
     -- where none has, it runs the task if that waits
-    pub none-lower-runs : waiting ts h x s i ≡ true → some-by s (take i (next-releases ts x)) ≡ false → runs (by-priority ts h x s) i ≡ true
+    pub none-lower-runs : waiting ts h x s i ≡ true → some-by s (take i (next-releases (ts .tasks) x)) ≡ false → runs (setting-of ts h .baseline x s) i ≡ true
     none-lower-runs w e =
-        by-bool (runs (by-priority ts h x s) i) (λ b. b)
+        by-bool (runs (setting-of ts h .baseline x s) i) (λ b. b)
         (λ b.
         let l = lower-waits ts h x s i a-task w b in
         let by = leb-true _ s (sym (waits-by s (l .0) lt (omega (arith, l .1))) ∙ l .2) in
-        let past = none-found s (take i (next-releases ts x)) e (l .0) (omega (arith, l .1, length-take i (next-releases ts x), releases-length ts x)) in
-        absurd (omega (arith, l .1, getD-take i (next-releases ts x) (l .0) 0 (l .1))))
+        let past = none-found s (take i (next-releases (ts .tasks) x)) e (l .0) (omega (arith, l .1, length-take i (next-releases (ts .tasks) x), releases-length (ts .tasks) x)) in
+        absurd (omega (arith, l .1, getD-take i (next-releases (ts .tasks) x) (l .0) 0 (l .1))))
 
-module _ (ts : List Task) (h : ℕ) {x : List ℕ} {f : ℕ} (e : Entry) (σ : List Entry) (keeps : StartKeepsRules ts h x f (e .task) (e .start)) where
+module _ (ts : Set) (h : ℕ) {x : List ℕ} {f : ℕ} (e : Entry) (σ : List Entry) (keeps : StartKeepsRules ts h x f (e .task) (e .start)) where
   -- a job is left before an entry
-  pub some-left : KeepsItsRule (task ts (e .task)) → least-release h ts x < h
+  pub some-left : KeepsItsRule (task ts (e .task)) → least-release h (ts .tasks) x < h
   some-left rule = omega (
     arith,
-    least-below h ts x (e .task) (keeps .a-task) (keeps .left),
+    least-below h (ts .tasks) x (e .task) (keeps .a-task) (keeps .left),
     released-in-cycle h (task ts (e .task)) (slot x (e .task)) rule (keeps .left),
   )
 
@@ -133,9 +134,9 @@ module _ (ts : List Task) (h : ℕ) {x : List ℕ} {f : ℕ} (e : Entry) (σ : L
   pub idle-before : (t : ℕ) → t ≡ instant (setting-of ts h) x f → t < e .start →
       forced-idles (setting-of ts h) x f (e ∷ σ)
       ≡ record { start = t; length = e .start - t } ∷ forced-idles (setting-of ts h) (start-job x (e .task)) (e .start + task ts (e .task) .time) σ
-  idle-before t is lt = rw (is, whole-gap ts h (e .start) x (instant (setting-of ts h) x f) (e .start) (omega arith) (omega arith))
+  idle-before t is lt = rw (is, whole-gap (setting-of ts h) (never-waits ts h) (e .start) x (instant (setting-of ts h) x f) (e .start) (omega arith) (omega arith))
 
   -- one at the instant has none
   pub no-idle-before : (t : ℕ) → t ≡ instant (setting-of ts h) x f → e .start ≤ t →
       forced-idles (setting-of ts h) x f (e ∷ σ) ≡ forced-idles (setting-of ts h) (start-job x (e .task)) (e .start + task ts (e .task) .time) σ
-  no-idle-before t is le = rw (no-gap ts h (e .start) x (instant (setting-of ts h) x f) (e .start) (omega arith))
+  no-idle-before t is le = rw (no-gap (setting-of ts h) (e .start) x (instant (setting-of ts h) x f) (e .start) (omega arith))

@@ -9,7 +9,6 @@ use native.Mathlib.Omega.{arith}
 use lib.ListN.{length}
 use lib.Seq.{ext-getD}
 use Rattle.fields.specs.Number.{Bytes}
-use Rattle.rules.specs.declared.Task.{Task}
 use Rattle.rules.specs.declared.Entry.{Entry}
 use Rattle.rules.specs.declared.Refusal.{Refusal}
 use Rattle.rules.specs.declared.CheckAnswer.{CheckAnswer}
@@ -21,11 +20,13 @@ use Rattle.rules.specs.Promised.{TimetableImage, RefusesTimetableImage}
 use Rattle.rules.proofs.Cases.{by-bool, by-nat, clash, gives-in}
 use Rattle.rules.proofs.Demand2.{accepts-timetable}
 use Rattle.rules.proofs.Promises.{timetable-order}
-use Rattle.framing.specs.SetRead.{tasks-offset, set-read}
+use Rattle.framing.specs.SetRead.{set-read}
 use Rattle.timetables.specs.declared.Counts.{Counts}
 use Rattle.timetables.specs.declared.Timetable.{Timetable}
+use Rattle.rules.specs.Tasks.{Set, memory-set}
+use Rattle.rules.specs.Marks.{head-length-of}
 use Rattle.timetables.specs.Counted.{Counted}
-use Rattle.timetables.specs.Judged.{tasks-of, entries-behind, refused-with, Good, JudgedAs}
+use Rattle.timetables.specs.Judged.{entries-behind, refused-with, Good, JudgedAs}
 use Rattle.timetables.proofs.EntriesRead.{entries-length}
 
 -- the contract of `check` leaves one answer
@@ -34,7 +35,7 @@ one-answer bytes r q e f = e ∙ sym f
 
 -- the answer is Accepted exactly where the bytes are the image of a good set and a valid timetable of it
 pub accepted-exactly : (bytes : List ℕ) → Bytes bytes → (r : CheckAnswer) → r ≡ check-timetable bytes →
-    (r ≡ Accepted) ↔ ((ts : List Task) × (τ : List Entry) × TimetableImage bytes ts τ)
+    (r ≡ Accepted) ↔ ((ts : Set) × (τ : List Entry) × TimetableImage bytes ts τ)
 accepted-exactly bytes b r e =
     let exactly = accepts-timetable bytes b in
     (λ a. exactly .0 (sym e ∙ a), λ w. e ∙ exactly .1 w)
@@ -46,7 +47,7 @@ refused-exactly bytes r e q =
     (λ a. exactly .0 (sym e ∙ a), λ w. e ∙ exactly .1 w)
 
 -- counts of one timetable are the same
-counts-same : {ts : List Task} {h : ℕ} {τ : List Entry} (c d : Counts) → Counted ts h τ c → Counted ts h τ d → c ≡ d
+counts-same : {ts : Set} {h : ℕ} {τ : List Entry} (c d : Counts) → Counted ts h τ c → Counted ts h τ d → c ≡ d
 counts-same c d a b =
     let idles : c .idles ≡ d .idles = a .idles ∙ sym (b .idles) in
     let inversions : c .inversions ≡ d .inversions = a .inversions ∙ sym (b .inversions) in
@@ -57,7 +58,7 @@ counts-same c d a b =
 module _ {bytes : List ℕ} {count : Bool} {t u : Timetable} (g : Good bytes count t) (k : Good bytes count u) where
   -- what the image holds
   abbrev held : Timetable → Timed
-  held v = record { tasks = tasks-of (v .set); entries = entries-behind bytes (v .set) (v .listed) }
+  held v = record { set = memory-set (v .set); entries = entries-behind bytes (v .set) (v .listed) }
 
   -- is the same
   same-held : held t ≡ held u
@@ -66,7 +67,7 @@ module _ {bytes : List ℕ} {count : Bool} {t u : Timetable} (g : Good bytes cou
   -- so the set is the same
   same-set : t .set ≡ u .set
   same-set =
-      let n : t .set .n ≡ u .set .n = omega (arith, g .tasks-many, k .tasks-many, ap (λ (x : Timed). length (x .tasks)) same-held) in
+      let n : t .set .n ≡ u .set .n = omega (arith, g .tasks-many, k .tasks-many, ap (λ (x : Timed). length (x .set .tasks)) same-held) in
       g .set-is ∙ ap (λ (m : ℕ). set-read m bytes) n ∙ sym (k .set-is)
 
   -- and the number of entries
@@ -75,8 +76,8 @@ module _ {bytes : List ℕ} {count : Bool} {t u : Timetable} (g : Good bytes cou
       omega (
         arith,
         ap (λ (x : Timed). length (x .entries)) same-held,
-        entries-length bytes (tasks-offset (t .set .n)) (t .listed),
-        entries-length bytes (tasks-offset (u .set .n)) (u .listed),
+        entries-length bytes (head-length-of (t .set .n)) (t .listed),
+        entries-length bytes (head-length-of (u .set .n)) (u .listed),
       )
 
   -- and the counts
@@ -97,7 +98,7 @@ module _ {bytes : List ℕ} {count : Bool} {t u : Timetable} (g : Good bytes cou
 good-derived : {bytes : List ℕ} {count : Bool} {t : Timetable} → Good bytes count t → (r : Refusal) → derived bytes ≡ refuses r → ⊥
 good-derived {bytes} {count} {t} g r e =
     let τ = entries-behind bytes (t .set) (t .listed) in
-    let given : derived bytes ≡ gives (record { tasks = tasks-of (t .set); tables = tables (tasks-of (t .set)) τ }) =
+    let given : derived bytes ≡ gives (record { set = memory-set (t .set); tables = tables (memory-set (t .set)) τ }) =
     rw (g .read, g .stand .good, g .no-fault) in
     let both = sym given ∙ e in
     clash (cc)

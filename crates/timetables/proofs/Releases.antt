@@ -10,7 +10,7 @@ use lib.ListN.{length, getD, set, take}
 use borrow.Author.Tests.{lt-ltb, le-ltb}
 use Rattle.fields.specs.Body.{head₀, tail₀}
 use Rattle.rules.specs.declared.Task.{Task}
-use Rattle.rules.specs.Tasks.{release, jobs, task, KeepsItsRule, GoodSet}
+use Rattle.rules.specs.Tasks.{Set, release, jobs, task, KeepsItsRule, GoodSet, task-in}
 use Rattle.rules.specs.Priority.{slot, start-job}
 use Rattle.rules.proofs.Cases.{by-le}
 use Rattle.rules.proofs.PriorityLaws.{slot-empty, due-in-cycle}
@@ -66,8 +66,8 @@ module _ (h : ℕ) (t : Task) (k : ℕ) where
 
 -- that all tasks have this in common
 abbrev pub LeftByRelease : ℕ → List Task → Type 0
-LeftByRelease h ts = (i : ℕ) → i < length ts → (k : ℕ) → ltb k (jobs h (task ts i)) ≡ ltb (release (task ts i) k) h
+LeftByRelease h ts = (i : ℕ) → i < length ts → (k : ℕ) → ltb k (jobs h (task-in ts i)) ≡ ltb (release (task-in ts i) k) h
 
 -- it holds for a good set
-pub good-releases : {ts : List Task} {h : ℕ} → GoodSet ts h → LeftByRelease h ts
+pub good-releases : {ts : Set} {h : ℕ} → GoodSet ts h → LeftByRelease h (ts .tasks)
 good-releases {ts} {h} g i l k = left-by-release h (task ts i) k (g .is-hyperperiod .common i l) (g .own-rules i l)

@@ -10,7 +10,7 @@ use lib.ListN.{length, getD, take}
 use borrow.Author.Tests.{lt-ltb, le-ltb}
 use Rattle.fields.specs.Body.{head₀, tail₀}
 use Rattle.rules.specs.declared.Task.{Task}
-use Rattle.rules.specs.Tasks.{task, release, jobs}
+use Rattle.rules.specs.Tasks.{Set, task, release, jobs}
 use Rattle.rules.specs.Priority.{slot, all-started, entry-breaks}
 use Rattle.rules.specs.Judging.{missing-from}
 use Rattle.rules.proofs.Cases.{by-bool}
@@ -18,15 +18,15 @@ use Rattle.rules.proofs.Arrays.{slot-element}
 use Rattle.timetables.specs.Walks.{next-releases, start-breaks, lowest-below}
 use Rattle.timetables.proofs.Releases.{LeftByRelease}
 
-module _ (ts : List Task) (h : ℕ) (x : List ℕ) (f i s : ℕ) where
+module _ (ts : Set) (h : ℕ) (x : List ℕ) (f i s : ℕ) where
   -- an entry of no task breaks 11
-  pub breaks-no-task : length ts ≤ i → entry-breaks ts h x f i s ≡ 11
-  breaks-no-task l = rw (le-ltb i (length ts) l)
+  pub breaks-no-task : length (ts .tasks) ≤ i → entry-breaks ts h x f i s ≡ 11
+  breaks-no-task l = rw (le-ltb i (length (ts .tasks)) l)
 
   -- an entry of a task breaks what its start breaks
-  pub breaks-of-task : LeftByRelease h ts → i < length ts →
+  pub breaks-of-task : LeftByRelease h (ts .tasks) → i < length (ts .tasks) →
       entry-breaks ts h x f i s ≡ start-breaks (task ts i) h (release (task ts i) (slot x i)) f s
-  breaks-of-task left l = rw (lt-ltb i (length ts) l, left i l (slot x i))
+  breaks-of-task left l = rw (lt-ltb i (length (ts .tasks)) l, left i l (slot x i))
 
 -- a scan from the next slot on is one of the slots behind the first
 scan-behind : (many i h : ℕ) (rs : List ℕ) → lowest-below many (suc i) h rs ≡ suc (lowest-below many i h (tail₀ rs))

@@ -7,24 +7,23 @@ use Prim.Native.Nat.{ℕ, suc, _+_, _*_, _-_, max, _≤_, _<_}
 use native.Mathlib.Omega.{arith}
 use native.Mathlib.Nat.{le-of-dvd}
 use lib.ListN.{length, getD, set, take}
-use lib.Seq.{take-take, length-take-le}
+use lib.Seq.{take-take}
 use Rattle.rules.specs.declared.Task.{Task}
 use Rattle.rules.specs.declared.TaskSet.{TaskSet}
 use Rattle.rules.specs.declared.Entry.{Entry}
 use Rattle.rules.specs.declared.Inversion.{Inversion}
-use Rattle.rules.specs.Tasks.{limits, largest-number, task, release, KeepsItsRule, GoodSet}
+use Rattle.rules.specs.Tasks.{Set, limits, largest-number, task, release, KeepsItsRule, GoodSet, memory-set}
 use Rattle.rules.specs.Setting.{Setting, instant}
-use Rattle.rules.specs.Priority.{slot, start-job, by-priority, entry-breaks, setting-of}
-use Rattle.rules.specs.Marks.{SL, size}
+use Rattle.rules.specs.Priority.{slot, start-job, entry-breaks, setting-of}
+use Rattle.rules.specs.Marks.{SL, size, head-length-of}
 use Rattle.rules.specs.Irregularities.{runs, forced-idles, inversion-of, inversions}
-use Rattle.rules.proofs.Arrays.{task-in-slot}
+use Rattle.rules.proofs.Arrays.{task-in-slot, memory-many}
 use Rattle.rules.proofs.GoodSets.{good-set, good-rules, good-positive}
 use Rattle.rules.proofs.PriorityLaws.{StartKeepsRules, due-in-cycle}
 use Rattle.rules.proofs.Pairs.{inversion-path}
 use Rattle.rules.proofs.Writable.{insert-length}
 use Rattle.timetables.specs.Walks.{next-releases, start-breaks}
-use Rattle.framing.specs.SetRead.{tasks-offset}
-use Rattle.timetables.specs.Judged.{tasks-of, EntriesStand}
+use Rattle.timetables.specs.Judged.{EntriesStand}
 use Rattle.timetables.specs.Counted.{task-inversions}
 use Rattle.timetables.specs.Instants.{least-of, some-by}
 use Rattle.timetables.proofs.Releases.{good-releases, releases-length, release-in-slot, release-stored}
@@ -38,15 +37,15 @@ pub record AtEntry (bytes : List ℕ) (s : TaskSet) (h : ℕ) (releases next : L
   pub stand : EntriesStand bytes s h j
   pub slots : length (s .tasks) ≡ 16
   pub releases-are : releases ≡ next-releases (s .tasks) next
-  pub place : at ≡ tasks-offset (s .n) + j * size SL
+  pub place : at ≡ head-length-of (s .n) + j * size SL
 
 -- the set is good
-pub stands-good : {bytes : List ℕ} {s : TaskSet} {h listed : ℕ} → EntriesStand bytes s h listed → GoodSet (tasks-of s) h
-stands-good {s = s} e = rw (e .cycle) (good-set (tasks-of s) (e .good))
+pub stands-good : {bytes : List ℕ} {s : TaskSet} {h listed : ℕ} → EntriesStand bytes s h listed → GoodSet (memory-set s) h
+stands-good {s = s} e = rw (e .cycle) (good-set (memory-set s) (e .good))
 
 -- before the first entry nothing has started
 pub at-first : {bytes : List ℕ} {s : TaskSet} {h listed at : ℕ} {releases : List ℕ} → EntriesStand bytes s h listed → length (s .tasks) ≡ 16 →
-    releases ≡ next-releases (s .tasks) [] → at ≡ tasks-offset (s .n) → AtEntry bytes s h releases [] at 0
+    releases ≡ next-releases (s .tasks) [] → at ≡ head-length-of (s .n) → AtEntry bytes s h releases [] at 0
 at-first e slots a b = record {
   stand = record { few = e .few; good = e .good; cycle = e .cycle; inside = omega (arith, e .inside) };
   slots = slots;
@@ -62,8 +61,8 @@ pub record GoodStart (t : Task) (released start : ℕ) : Type 0 where
 
 module _ {bytes : List ℕ} {s : TaskSet} {h : ℕ} {releases next : List ℕ} {at j : ℕ} (w : AtEntry bytes s h releases next at j) where
   -- the set's tasks
-  abbrev ts : List Task
-  ts = tasks-of s
+  abbrev ts : Set
+  ts = memory-set s
 
   -- the set's setting
   abbrev G : Setting
@@ -78,8 +77,8 @@ module _ {bytes : List ℕ} {s : TaskSet} {h : ℕ} {releases next : List ℕ} {
   room = omega (arith, w .slots, w .stand .few)
 
   -- so there are n of them
-  pub tasks-many : length ts ≡ s .n
-  tasks-many = length-take-le (s .n) (s .tasks) room
+  pub tasks-many : length (ts .tasks) ≡ s .n
+  tasks-many = memory-many s room
 
   -- there is a next release for each slot
   pub releases-many : length releases ≡ 16
@@ -87,12 +86,12 @@ module _ {bytes : List ℕ} {s : TaskSet} {h : ℕ} {releases next : List ℕ} {
 
   -- a task of the set keeps its own rule
   pub slot-keeps : (i : ℕ) (d : Task) → i < s .n → KeepsItsRule (getD (s .tasks) i d)
-  slot-keeps i d l = rw (task-in-slot (s .tasks) (s .n) i d room l) at (good-rules good i)
+  slot-keeps i d l = rw (task-in-slot s i d room l) at (good-rules good i)
 
   -- the end of a cycle and a deadline together fit 32 bits
   pub slot-short : (i : ℕ) (d : Task) → i < s .n → h + getD (s .tasks) i d .deadline ≤ largest-number
   slot-short i d l =
-      let same : getD (s .tasks) i d ≡ task ts i = sym (task-in-slot (s .tasks) (s .n) i d room l) in
+      let same : getD (s .tasks) i d ≡ task ts i = sym (task-in-slot s i d room l) in
       let period : task ts i .period ≤ h = le-of-dvd {m = task ts i .period} {n = h} (good-positive good) (good .is-hyperperiod .common i (omega (arith, tasks-many))) in
       rw same (omega (arith, period, good .short, good-rules good i .within))
 
@@ -105,10 +104,11 @@ module _ {bytes : List ℕ} {s : TaskSet} {h : ℕ} {releases next : List ℕ} {
       entry-breaks ts h next f i start ≡ start-breaks (getD (s .tasks) i d) h (getD releases i 0) f start
   breaks-in-slots f i start d l =
       breaks-of-task ts h next f i start (good-releases good) (omega (arith, tasks-many))
-      ∙ rw (task-in-slot (s .tasks) (s .n) i d room l, its-release i d l)
+      ∙ rw (task-in-slot s i d room l, its-release i d l)
 
   -- the releases of the set's tasks stand in the first slots
-  first-releases-are : take (s .n) releases ≡ next-releases ts next
+  first-releases-are : take (s .n) releases ≡ next-releases (ts .tasks) next
+  unfolding memory-set
   first-releases-are = ap (take (s .n)) (w .releases-are) ∙ releases-taken (s .n) (s .tasks) next
 
   module _ {f : ℕ} (e : Entry) (d : Task) (keeps : StartKeepsRules ts h next f (e .task) (e .start)) where
@@ -118,7 +118,7 @@ module _ {bytes : List ℕ} {s : TaskSet} {h : ℕ} {releases next : List ℕ} {
 
     -- its task stands in its slot
     turn-slot : task ts (e .task) ≡ getD (s .tasks) (e .task) d
-    turn-slot = task-in-slot (s .tasks) (s .n) (e .task) d room turn-task
+    turn-slot = task-in-slot s (e .task) d room turn-task
 
     -- the next job numbers after the entry
     abbrev next-after : List ℕ
@@ -174,7 +174,7 @@ module _ {bytes : List ℕ} {s : TaskSet} {h : ℕ} {releases next : List ℕ} {
         (instant-is ts h next (good-releases good) f (omega (arith, good .short)) (some-left ts h e [] keeps (good-rules good (e .task))))
 
     -- and those of lower tasks before the entry's own
-    lower-releases-are : take (e .task) releases ≡ take (e .task) (next-releases ts next)
+    lower-releases-are : take (e .task) releases ≡ take (e .task) (next-releases (ts .tasks) next)
     lower-releases-are = sym (take-take (e .task) (s .n) releases (omega (arith, turn-task))) ∙ ap (take (e .task)) first-releases-are
 
     -- the start is an instant of the cycle
@@ -184,11 +184,11 @@ module _ {bytes : List ℕ} {s : TaskSet} {h : ℕ} {releases next : List ℕ} {
         omega (arith, keeps .in-time, due-in-cycle h (slot next (e .task)) (task ts (e .task)) rule (keeps .left), rule .takes-time)
 
     -- where a lower task's release has come, the baseline would not make the start
-    inverts : some-by (e .start) (take (e .task) releases) ≡ true → runs (by-priority ts h next (e .start)) (e .task) ≡ false
+    inverts : some-by (e .start) (take (e .task) releases) ≡ true → runs (setting-of ts h .baseline next (e .start)) (e .task) ≡ false
     inverts b = lower-inverts ts h next (good-releases good) (e .start) (e .task) in-cycle (keeps .a-task) (rw lower-releases-are at b)
 
     -- where none has, it would
-    is-regular : some-by (e .start) (take (e .task) releases) ≡ false → runs (by-priority ts h next (e .start)) (e .task) ≡ true
+    is-regular : some-by (e .start) (take (e .task) releases) ≡ false → runs (setting-of ts h .baseline next (e .start)) (e .task) ≡ true
     is-regular b =
         none-lower-runs ts h next (good-releases good) (e .start) (e .task) in-cycle (keeps .a-task) (is-waiting ts h e [] keeps)
         (rw lower-releases-are at b)

@@ -4,7 +4,7 @@ use mathlib.Core.Logic.{_⊎_, inl, inr}
 use mathlib.Core.Bool.{Bool, true, false}
 use mathlib.Core.List.{List, []}
 use mathlib.Core.Option.{some}
-use Prim.Native.Nat.{ℕ, suc, _+_, _*_, max, _≤_, _<_}
+use Prim.Native.Nat.{ℕ, _+_, _*_, max, _≤_, _<_}
 use native.Mathlib.Omega.{arith}
 use lib.Dec.{ltb}
 use lib.ListN.{length, getD, set, take, replicate}
@@ -13,15 +13,15 @@ use Rattle.rules.specs.declared.TaskSet.{TaskSet}
 use Rattle.rules.specs.declared.Entry.{Entry}
 use Rattle.rules.specs.Refusals.{refusal}
 use Rattle.rules.specs.Priority.{start-job}
-use Rattle.rules.specs.Marks.{SL, size}
+use Rattle.rules.specs.Marks.{SL, size, head-count-of, head-length-of}
+use Rattle.rules.specs.Tasks.{memory-set}
 use Rattle.rules.proofs.Cases.{by-eq, differ}
 use Rattle.rules.proofs.PriorityLaws.{StartKeepsRules}
 use Rattle.images.specs.Table.{stands-at}
 use Rattle.images.proofs.TableLaws.{stands-whole}
-use Rattle.framing.specs.SetRead.{tasks-offset}
 use Rattle.timetables.specs.Walks.{start-breaks, lowest-below, next-releases}
 use Rattle.timetables.specs.Entries.{entry-in}
-use Rattle.timetables.specs.Judged.{tasks-of, fault-behind, EntriesStand, Walked}
+use Rattle.timetables.specs.Judged.{fault-behind, EntriesStand, Walked}
 use Rattle.timetables.specs.Instants.{least-of, some-by}
 use Rattle.timetables.specs.Counted.{no-counts}
 use Rattle.timetables.proofs.Turns.{at-first, GoodStart, turn-good}
@@ -35,14 +35,14 @@ pub record Walking (bytes : List ℕ) (s : TaskSet) (h : ℕ) (count : Bool) (re
     (each : List ℕ) : Type 0 where
   pub next : List ℕ
   pub judged : JudgedFrom bytes s h releases next free at j
-  pub stood : (k : ℕ) → k < j → stands-at bytes (tasks-offset (s .n) + k * size SL) SL ≡ true
+  pub stood : (k : ℕ) → k < j → stands-at bytes (head-length-of (s .n) + k * size SL) SL ≡ true
   pub counted : count ≡ true → CountedFrom bytes s h next free at j idles total each
   pub uncounted : count ≡ false → record { idles = idles; inversions = total; each = each } ≡ no-counts
   pub few : FewSoFar j idles total each
 
 -- before the first entry
 pub walking-first : {bytes : List ℕ} {s : TaskSet} {h at : ℕ} {count : Bool} {releases : List ℕ} → EntriesStand bytes s h 0 → length (s .tasks) ≡ 16 →
-    releases ≡ next-releases (s .tasks) [] → at ≡ tasks-offset (s .n) → Walking bytes s h count releases 0 at 0 0 0 (replicate 16 0)
+    releases ≡ next-releases (s .tasks) [] → at ≡ head-length-of (s .n) → Walking bytes s h count releases 0 at 0 0 0 (replicate 16 0)
 walking-first stand slots first place = record {
   next = [];
   judged = judged-first (at-first stand slots first place);
@@ -81,7 +81,7 @@ module _ {bytes : List ℕ} {s : TaskSet} {h : ℕ} {count : Bool} {releases : L
 
   -- an SL record whose entry breaks a rule
   broken-here : stands-at bytes at SL ≡ true → (number i : ℕ) → (number ≡ 0 → ⊥) →
-      ((listed : ℕ) → j < listed → fault-behind bytes s listed ≡ some (refusal number (suc (s .n + j)))) →
+      ((listed : ℕ) → j < listed → fault-behind bytes s listed ≡ some (refusal number (head-count-of (s .n) + j))) →
       Walked bytes s h count
       (record { number = number; entries = j; at = at; missing = i; counts = record { idles = idles; inversions = total; each = each } })
   broken-here stands number i z fault = record {
@@ -112,7 +112,7 @@ module _ {bytes : List ℕ} {s : TaskSet} {h : ℕ} {count : Bool} {releases : L
 
       module _ (z : number ≡ 0) where
         -- the start keeps the rules of an entry
-        keeps : StartKeepsRules (tasks-of s) h (w .next) free (e .task) (e .start)
+        keeps : StartKeepsRules (memory-set s) h (w .next) free (e .task) (e .start)
         keeps = entry-keeps (w .judged) e is d l number q z
 
         -- its start keeps them, and no sum is large
@@ -135,7 +135,7 @@ module _ {bytes : List ℕ} {s : TaskSet} {h : ℕ} {count : Bool} {releases : L
           next = start-job (w .next) (e .task);
           judged = judged-next (w .judged) e is d l number q z (entry-inside stands);
           stood = λ k lt. by-eq k j
-              (λ same. let here : tasks-offset (s .n) + k * size SL ≡ at = omega (arith, same, w .judged .here .place) in rw here stands)
+              (λ same. let here : head-length-of (s .n) + k * size SL ≡ at = omega (arith, same, w .judged .here .place) in rw here stands)
               (λ n. w .stood k (omega arith));
           counted = λ c. its-count c turn;
           uncounted = λ c. not-counted c turn;

@@ -4,10 +4,9 @@ use mathlib.Core.List.{List, [], _∷_}
 use Prim.Native.Nat.{ℕ}
 use lib.Dec.{eqb}
 use lib.ListN.{length, getD, replicate}
-use Rattle.rules.specs.declared.Task.{Task}
 use Rattle.rules.specs.declared.Entry.{Entry}
 use Rattle.rules.specs.declared.Inversion.{Inversion}
-use Rattle.rules.specs.Tasks.{limits}
+use Rattle.rules.specs.Tasks.{Set, limits}
 use Rattle.rules.specs.Timetable.{pick}
 use Rattle.rules.specs.Setting.{Setting, Tables}
 use Rattle.rules.specs.Priority.{setting-of}
@@ -16,7 +15,7 @@ use Rattle.rules.specs.Irregularities.{runs, inversion-of}
 use Rattle.timetables.specs.declared.Counts.{Counts}
 
 -- the tables of a set's timetable, in a cycle of h ticks
-abbrev pub tables-of : List Task → ℕ → List Entry → Tables
+abbrev pub tables-of : Set → ℕ → List Entry → Tables
 tables-of ts h τ = book.tables-of (setting-of ts h) [] 0 τ
 
 module _ (G : Setting) (i : ℕ) where
@@ -30,7 +29,7 @@ module _ (G : Setting) (i : ℕ) where
       (task-inversions (G .start-job x (e .task)) τ)
 
 -- their records, counted
-pub record Counted (ts : List Task) (h : ℕ) (τ : List Entry) (c : Counts) : Type 0 where
+pub record Counted (ts : Set) (h : ℕ) (τ : List Entry) (c : Counts) : Type 0 where
   pub idles : c .idles ≡ length (tables-of ts h τ .idles)
   pub inversions : c .inversions ≡ length (tables-of ts h τ .inversions)
   pub each : (i : ℕ) → getD (c .each) i 0 ≡ length (task-inversions (setting-of ts h) i [] τ)

@@ -2,12 +2,10 @@
 // beside the arguments is a few arrays of 16.
 use framing::FrameAnswer;
 use framing::TasksAnswer;
+use images::ENTRY_SIZE;
 use images::ROWS;
 use images::SL;
-use images::TK;
-use images::TS;
 use rules::CheckAnswer;
-use rules::Entry;
 use rules::Place;
 use rules::Refusal;
 use rules::SetAnswer;
@@ -18,12 +16,9 @@ ghost use mathlib.Core.List.{[]};
 ghost use Prim.Native.Nat.{_+_, max, _≤_, _<_};
 ghost use lib.Dec.{ltb};
 ghost use lib.ListN.{length, take};
-ghost use Rattle.rules.specs.Marks as book-marks;
 ghost use Rattle.rules.specs.Tasks.{largest-number};
 ghost use Rattle.rules.specs.Operations.{check-timetable};
 ghost use Rattle.timetables.specs.Walks as walks;
-ghost use Rattle.framing.specs.SetRead.{tasks-offset};
-ghost use Rattle.timetables.specs.Entries.{entry-in};
 ghost use Rattle.timetables.specs.Judged.{EntriesStand, Walked, refused-with, JudgedAs};
 ghost use Rattle.timetables.specs.Instants.{least-of, some-by};
 
@@ -63,21 +58,6 @@ fn start_breaks(t: Task, h: u32, release: u32, free: u32, start: u32) -> u32
         return 15;
     }
     0
-}
-
-// The entry at a byte offset.
-pub fn entry_at(image: &[u8], at: usize) -> Entry
-    requires { ⌜ at + book-marks.size book-marks.SL ≤ length (now image) ⌝ }
-    ensures { λ r. ⌜ r ≡ entry-in (now (image .entry)) at ⌝ }
-{
-    images::entry_body(images::part(image, at + 2, ROWS[SL].body))
-}
-
-// The byte offset of the first entry.
-pub fn first_entry(n: u32) -> usize
-    ensures { λ r. ⌜ r ≡ tasks-offset n ⌝ }
-{
-    ROWS[TS].body + 2 + (n as usize) * (ROWS[TK].body + 2)
 }
 
 // The lowest of n tasks with a job missing, n where there is none.
@@ -171,7 +151,7 @@ fn walk_entries(image: &[u8], s: TaskSet, h: u32, count: bool) -> Walk
     let mut idles: usize = 0;
     let mut inversions: usize = 0;
     let mut each = [0usize; 16];
-    let mut at = first_entry(s.n);
+    let mut at = images::head_length(n);
     let mut j: usize = 0;
     'entries: loop {
         if !images::stands(image, at, SL) {
@@ -188,7 +168,7 @@ fn walk_entries(image: &[u8], s: TaskSet, h: u32, count: bool) -> Walk
                 counts,
             };
         }
-        let e = entry_at(image, at);
+        let e = images::entry_at(image, at);
         if s.n <= e.task {
             let counts = Counts {
                 idles,
@@ -231,7 +211,7 @@ fn walk_entries(image: &[u8], s: TaskSet, h: u32, count: bool) -> Walk
         }
         release[i] += t.period;
         free = e.start + t.time;
-        at += ROWS[SL].body + 2;
+        at += ENTRY_SIZE;
         j += 1;
     }
 }
@@ -285,7 +265,7 @@ pub fn judge(image: &[u8], count: bool) -> Timetable
                 },
                 SetAnswer::Good(f) => {
                     let w = walk_entries(image, set, f.hyperperiod, count);
-                    let index = p.tasks + 1 + w.entries;
+                    let index = p.index + w.entries;
                     let mut rank = p.rank;
                     if 0 < w.entries {
                         rank = ROWS[SL].rank;

@@ -32,12 +32,18 @@ part-requires c κs = body-inside _ _ ID (sym (c .before .before .whole .ensures
 idle-body-requires : tie.Need-idle-body-requires
 idle-body-requires c κs = search needs
 
+index-1-idle-keeps : tie.Need-index-1-idle-keeps
+index-1-idle-keeps c = search needs
+
+index-2-idle-keeps : tie.Need-index-2-idle-keeps
+index-2-idle-keeps c = search needs
+
 idle-keeps-requires : tie.Need-idle-keeps-requires
 idle-keeps-requires c κs = search needs
 
 returns-2 : tie.Need-returns-2
 returns-2 c = λ ts fits.
-    let read = c .before .before in
+    let read = c .before .before .before in
     let whole = read .before .before .before in
     let is-whole = sym (whole .before .whole .ensures) ∙ whole .if2 .taken in
     idle-read ts _ _ _ (set-hyperperiod fits) true is-whole _
@@ -46,7 +52,7 @@ returns-2 c = λ ts fits.
 
 returns-3 : tie.Need-returns-3
 returns-3 c = λ ts fits.
-    let read = c .before .before in
+    let read = c .before .before .before in
     let whole = read .before .before .before in
     let is-whole = sym (whole .before .whole .ensures) ∙ whole .if2 .taken in
     idle-read ts _ _ _ (set-hyperperiod fits) false is-whole _
@@ -78,7 +84,7 @@ returns-4 c = λ ts fits.
     let is-whole = sym (whole .before .whole2 .ensures) ∙ whole .if4 .taken in
     no-idle-read ts _ _ _ (set-hyperperiod fits) true is-whole _
     (inversion-body-read _ _ _ _ (read .before .part2 .ensures) is-whole (read .before .before .body-of2 .ensures) _ (read .inversion-body .ensures))
-    (sym (c .if5 .taken) ∙ c .before .inversion-keeps .ensures ts _ fits)
+    (sym (c .if5 .taken) ∙ c .before .inversion-keeps .ensures ts fits)
 
 returns-5 : tie.Need-returns-5
 returns-5 c = λ ts fits.
@@ -87,7 +93,7 @@ returns-5 c = λ ts fits.
     let is-whole = sym (whole .before .whole2 .ensures) ∙ whole .if4 .taken in
     no-idle-read ts _ _ _ (set-hyperperiod fits) false is-whole _
     (inversion-body-read _ _ _ _ (read .before .part2 .ensures) is-whole (read .before .before .body-of2 .ensures) _ (read .inversion-body .ensures))
-    (sym (c .if5 .left) ∙ c .before .inversion-keeps .ensures ts _ fits)
+    (sym (c .if5 .left) ∙ c .before .inversion-keeps .ensures ts fits)
 
 whole-requires-3 : tie.Need-whole-requires-3
 whole-requires-3 c κs = search needs
@@ -113,6 +119,8 @@ idle-shown-spec =
     body-of-requires
     part-requires
     idle-body-requires
+    index-1-idle-keeps
+    index-2-idle-keeps
     idle-keeps-requires
     returns-2
     returns-3

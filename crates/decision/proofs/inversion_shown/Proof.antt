@@ -27,31 +27,31 @@ inversion-keeps-requires : tie.Need-inversion-keeps-requires
 inversion-keeps-requires c κs = search needs
 
 returns : tie.Need-returns
-returns c = λ ts h fits.
+returns c = λ ts fits.
     let read = c .before .before in
     let whole = read .before .before .before in
     let is-whole = sym (whole .before .whole .ensures) ∙ whole .if1 .taken in
-    inversion-read ts _ _ h (set-hyperperiod fits) true is-whole _
+    inversion-read ts _ _ _ (set-hyperperiod fits) true is-whole _
     (inversion-body-read _ _ _ _ (read .before .part .ensures) is-whole (read .before .before .body-of .ensures) _ (read .inversion-body .ensures))
-    (sym (c .if2 .taken) ∙ c .before .inversion-keeps .ensures ts h fits)
+    (sym (c .if2 .taken) ∙ c .before .inversion-keeps .ensures ts fits)
 
 returns-2 : tie.Need-returns-2
-returns-2 c = λ ts h fits.
+returns-2 c = λ ts fits.
     let read = c .before .before in
     let whole = read .before .before .before in
     let is-whole = sym (whole .before .whole .ensures) ∙ whole .if1 .taken in
-    inversion-read ts _ _ h (set-hyperperiod fits) false is-whole _
+    inversion-read ts _ _ _ (set-hyperperiod fits) false is-whole _
     (inversion-body-read _ _ _ _ (read .before .part .ensures) is-whole (read .before .before .body-of .ensures) _ (read .inversion-body .ensures))
-    (sym (c .if2 .left) ∙ c .before .inversion-keeps .ensures ts h fits)
+    (sym (c .if2 .left) ∙ c .before .inversion-keeps .ensures ts fits)
 
 whole-requires-2 : tie.Need-whole-requires-2
 whole-requires-2 c κs = search needs
 
 returns-3 : tie.Need-returns-3
-returns-3 c = λ ts h fits. inversion-at-end ts _ _ (sym (c .before .whole2 .ensures) ∙ c .if3 .taken)
+returns-3 c = λ ts fits. inversion-at-end ts _ _ (sym (c .before .whole2 .ensures) ∙ c .if3 .taken)
 
 returns-4 : tie.Need-returns-4
-returns-4 c = λ ts h fits.
+returns-4 c = λ ts fits.
     let first = c .before .before in
     nothing-for-task ts _ _ (sym (first .before .whole .ensures) ∙ first .if1 .left) (sym (c .before .whole2 .ensures) ∙ c .if3 .left)
 

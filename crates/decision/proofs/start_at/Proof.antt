@@ -6,6 +6,34 @@ use Rattle.decision.proofs.Starting.{none-at-end, choosing, none-chosen
 use Rattle.decision.proofs.start_at.Statement.{statement}
 use Rattle.decision.proofs.start_at.Tie as tie
 
+-- where the function begins
+abbrev begin : tie.After-waiting → tie.Start
+begin c = c .before .before .before .before .before .before .before .before
+
+index-1-n : tie.Need-index-1-n
+index-1-n c = search needs
+
+index-2-n : tie.Need-index-2-n
+index-2-n c = search needs
+
+cast-n : tie.Need-cast-n
+cast-n c = search needs
+
+index-1-slack : tie.Need-index-1-slack
+index-1-slack c = search needs
+
+index-1-release : tie.Need-index-1-release
+index-1-release c = search needs
+
+index-1-offsets : tie.Need-index-1-offsets
+index-1-offsets c = search needs
+
+index-1-if1 : tie.Need-index-1-if1
+index-1-if1 c = search needs
+
+index-2-if1 : tie.Need-index-2-if1
+index-2-if1 c = search needs
+
 returns : tie.Need-returns
 returns c = λ ts f s. none-at-end s (c .if1 .taken)
 
@@ -14,8 +42,8 @@ waiting-requires c κs = search needs
 
 chosen-task-requires : tie.Need-chosen-task-requires
 chosen-task-requires c κs =
-    let given = c .before .before .before .pre in
-    (given .0, _, _, choosing (given .2) (c .before .if1 .left) (c .waiting .ensures))
+    let given = begin c .pre in
+    (given .0, _, choosing (given .2) (c .before .if1 .left) (c .waiting .ensures))
 
 cast-i : tie.Need-cast-i
 cast-i c = search needs
@@ -26,7 +54,7 @@ returns-2 c = λ ts f s.
     let come = chosen .before in
     let before = come .before .if1 .left in
     none-chosen s before (come .waiting .ensures)
-    (chosen .chosen-task .ensures ts _ _ (choosing s before (come .waiting .ensures))) (c .if2 .taken)
+    (chosen .chosen-task .ensures ts _ (choosing s before (come .waiting .ensures))) (c .if2 .taken)
 
 mul-if3 : tie.Need-mul-if3
 mul-if3 c = search needs
@@ -45,10 +73,10 @@ sub-if3 c =
     let test = c .before .before in
     let chosen = test .before in
     let come = chosen .before in
-    let given = come .before .before .before .pre in
+    let given = begin come .pre in
     let before = come .before .if1 .left in
     chosen-come (given .2) before (come .waiting .ensures)
-    (chosen .chosen-task .ensures (given .0) _ _ (choosing (given .2) before (come .waiting .ensures))) (test .if2 .left)
+    (chosen .chosen-task .ensures (given .0) _ (choosing (given .2) before (come .waiting .ensures))) (test .if2 .left)
 
 returns-3 : tie.Need-returns-3
 returns-3 c = λ ts f s.
@@ -57,7 +85,7 @@ returns-3 c = λ ts f s.
     let come = chosen .before in
     let before = come .before .if1 .left in
     chosen-late s before (come .waiting .ensures)
-    (chosen .chosen-task .ensures ts _ _ (choosing s before (come .waiting .ensures))) (test .if2 .left) (c .if3 .taken)
+    (chosen .chosen-task .ensures ts _ (choosing s before (come .waiting .ensures))) (test .if2 .left) (c .if3 .taken)
 
 without-started-requires : tie.Need-without-started-requires
 without-started-requires c κs = search needs
@@ -76,10 +104,10 @@ own-offset-requires c κs =
     let test = c .before .before .before .before .before .before in
     let chosen = test .before in
     let come = chosen .before in
-    let given = come .before .before .before .pre in
+    let given = begin come .pre in
     let before = come .before .if1 .left in
     chosen-room (given .2) before (come .waiting .ensures)
-    (chosen .chosen-task .ensures (given .0) _ _ (choosing (given .2) before (come .waiting .ensures))) (test .if2 .left)
+    (chosen .chosen-task .ensures (given .0) _ (choosing (given .2) before (come .waiting .ensures))) (test .if2 .left)
 
 returns-4 : tie.Need-returns-4
 returns-4 c = λ ts f s.
@@ -90,13 +118,21 @@ returns-4 c = λ ts f s.
     let come = chosen .before in
     let before = come .before .if1 .left in
     chosen-starts s before (come .waiting .ensures)
-    (chosen .chosen-task .ensures ts _ _ (choosing s before (come .waiting .ensures))) (test .if2 .left) (in-time .if3 .left)
+    (chosen .chosen-task .ensures ts _ (choosing s before (come .waiting .ensures))) (test .if2 .left) (in-time .if3 .left)
     (c .own-offset .ensures) (lower .lowest .ensures ∙ ap (trailingZeros 16) (lower .before .without-started .ensures))
 
 pub start-at-spec : {M : Type 1} → statement M
 start-at-spec =
     tie.close
     (tie.spec
+    index-1-n
+    index-2-n
+    cast-n
+    index-1-slack
+    index-1-release
+    index-1-offsets
+    index-1-if1
+    index-2-if1
     returns
     waiting-requires
     chosen-task-requires

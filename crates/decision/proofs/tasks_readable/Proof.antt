@@ -9,15 +9,24 @@ use Rattle.decision.proofs.tasks_readable.Statement.{statement}
 use Rattle.decision.proofs.tasks_readable.Tie as tie
 
 abbrev Inv-tasks : tie.InvT-tasks
-Inv-tasks image judged n jobs slack offsets i₀ i = Reads image n jobs slack offsets i
+Inv-tasks image judged kept offsets n i₀ i = Reads image kept offsets i
 
 abbrev μ-tasks : tie.MeasureT-tasks
-μ-tasks image judged n jobs slack offsets i₀ i = n - i
+μ-tasks image judged kept offsets n i₀ i = n - i
 
 returns : tie.Need-returns Inv-tasks μ-tasks
-returns c = λ ts h fits.
+returns c = λ ts fits.
     let given = c .before .before .pre .1 (c .if1 .taken) in
-    sym (same-readable (given .2) fits _ _ (given .3))
+    sym (same-readable (given .1) fits _ _ (given .2))
+
+index-1-n : tie.Need-index-1-n Inv-tasks μ-tasks
+index-1-n c = search needs
+
+index-2-n : tie.Need-index-2-n Inv-tasks μ-tasks
+index-2-n c = search needs
+
+cast-n : tie.Need-cast-n Inv-tasks μ-tasks
+cast-n c = search needs
 
 tasks-holds : tie.Need-tasks-holds Inv-tasks μ-tasks
 tasks-holds c = reads-first
@@ -69,6 +78,9 @@ tasks-readable-spec =
     Inv-tasks
     μ-tasks
     returns
+    index-1-n
+    index-2-n
+    cast-n
     tasks-holds
     mul-inversion-shown
     element-copy-out-inversion-shown

@@ -33,91 +33,73 @@ judge-requires c κs = search needs
 returns : tie.Need-returns
 returns c = refused-so _ _ _ (c .before .before .before .judge .ensures) (c .before .if1 .taken)
 
-first-entry-requires : tie.Need-first-entry-requires
-first-entry-requires c κs = search needs
+cast-n : tie.Need-cast-n
+cast-n c = search needs
 
-element-copy-out-end : tie.Need-element-copy-out-end
-element-copy-out-end c = search needs
-
-add-end : tie.Need-add-end
-add-end c = search needs
+head-length-requires : tie.Need-head-length-requires
+head-length-requires c κs = search needs
 
 mul-end : tie.Need-mul-end
-mul-end c = let q = few (c .before .before .before .before) in omega (arith, c .before .first-entry .ensures, q .0, q .1, q .2)
+mul-end c = let q = few (c .before .before .before .before .before) in omega (arith, c .before .head-length .ensures, q .0, q .1, q .2)
 
-add-end-2 : tie.Need-add-end-2
-add-end-2 c = let q = few (c .before .before .before .before) in omega (arith, c .before .first-entry .ensures, q .0, q .1, q .2)
-
-element-copy-out-end-2 : tie.Need-element-copy-out-end-2
-element-copy-out-end-2 c = search needs
-
-add-end-3 : tie.Need-add-end-3
-add-end-3 c = search needs
+add-end : tie.Need-add-end
+add-end c = let q = few (c .before .before .before .before .before) in omega (arith, c .before .head-length .ensures, q .0, q .1, q .2)
 
 mul-end-2 : tie.Need-mul-end-2
-mul-end-2 c = let q = few (c .before .before .before .before .before) in omega (arith, c .before .before .first-entry .ensures, q .0, q .1, q .2)
+mul-end-2 c = let q = few (c .before .before .before .before .before .before) in omega (arith, c .before .before .head-length .ensures, q .0, q .1, q .2)
 
-add-end-4 : tie.Need-add-end-4
-add-end-4 c = let q = few (c .before .before .before .before .before) in omega (arith, c .before .before .first-entry .ensures, q .0, q .1, q .2)
-
-element-copy-out-length : tie.Need-element-copy-out-length
-element-copy-out-length c = search needs
+add-end-2 : tie.Need-add-end-2
+add-end-2 c = let q = few (c .before .before .before .before .before .before) in omega (arith, c .before .before .head-length .ensures, q .0, q .1, q .2)
 
 add-length : tie.Need-add-length
-add-length c = search needs
-
-add-length-2 : tie.Need-add-length-2
-add-length-2 c = let q = few (c .before .before .before .before .before) in omega (arith, c .before .before .first-entry .ensures, q .0, q .1, q .2)
+add-length c = let q = few (c .before .before .before .before .before .before) in omega (arith, c .before .before .head-length .ensures, q .0, q .1, q .2)
 
 returns-2 : tie.Need-returns-2
 returns-2 c =
     let placed = c .before .before .before in
-    let q = placed .before .before .before in
-    too-short (image-of q) (judged q) (is-good q) _ _ (omega (arith, placed .first-entry .ensures)) (c .if2 .taken)
+    let q = placed .before .before .before .before in
+    too-short (image-of q) (judged q) (is-good q) _ _ (omega (arith, placed .head-length .ensures)) (c .if2 .taken)
 
 put-set-requires : tie.Need-put-set-requires
 put-set-requires c κs =
     let placed = c .before .before .before .before in
-    (few (placed .before .before .before) .2, omega (arith, c .before .if2 .left, placed .first-entry .ensures))
+    (few (placed .before .before .before .before) .2, omega (arith, c .before .if2 .left, placed .head-length .ensures))
 
 put-irregularities-requires : tie.Need-put-irregularities-requires
 put-irregularities-requires c κs =
     let set = c .before .before .before in
     let room = set .before .before in
     let placed = room .before .before .before in
-    let q = placed .before .before .before in
+    let q = placed .before .before .before .before in
     record {
       valid = its-entries _ _ (is-good q);
       counted = counted _ _ (is-good q);
-      room = omega (arith, room .if2 .left, placed .first-entry .ensures, set .put-set .kept .0);
+      room = omega (arith, room .if2 .left, placed .head-length .ensures, set .put-set .kept .0);
     }
 
-cast-before : tie.Need-cast-before
-cast-before c = search needs
+head-count-requires : tie.Need-head-count-requires
+head-count-requires c κs = search needs
 
 add-before : tie.Need-add-before
-add-before c = search needs
+add-before c =
+    let records = c .before .before .before .before in
+    let room = records .before .before .before .before .before .before in
+    let q = few (room .before .before .before .before .before .before .before) in
+    omega (arith, c .before .head-count .ensures, q .0, q .1, q .2)
 
 add-before-2 : tie.Need-add-before-2
 add-before-2 c =
-    let records = c .before .before .before .before in
-    let room = records .before .before .before .before .before .before in
-    let q = few (room .before .before .before .before .before .before) in
-    omega (arith, q .0, q .1, q .2)
-
-add-before-3 : tie.Need-add-before-3
-add-before-3 c =
     let records = c .before .before .before .before .before in
     let room = records .before .before .before .before .before .before in
-    let q = few (room .before .before .before .before .before .before) in
-    omega (arith, q .0, q .1, q .2)
+    let q = few (room .before .before .before .before .before .before .before) in
+    omega (arith, c .before .before .head-count .ensures, q .0, q .1, q .2)
 
 cast-put-end : tie.Need-cast-put-end
 cast-put-end c =
     let records = c .before .before .before .before .before .before in
     let room = records .before .before .before .before .before .before in
-    let q = few (room .before .before .before .before .before .before) in
-    omega (arith, q .0, q .1, q .2)
+    let q = few (room .before .before .before .before .before .before .before) in
+    omega (arith, c .before .before .before .head-count .ensures, q .0, q .1, q .2)
 
 put-end-requires : tie.Need-put-end-requires
 put-end-requires c κs = search needs
@@ -132,13 +114,13 @@ returns-3 c =
     let set = records .before .before .before .before in
     let room = set .before .before in
     let placed = room .before .before .before in
-    let q = placed .before .before .before in
-    let at = placed .first-entry .ensures in
+    let q = placed .before .before .before .before in
+    let at = placed .head-length .ensures in
     record {
       answer = answered (image-of q) (judged q) (is-good q) _ _ (omega arith) (room .if2 .left);
       output = put-out (image-of q) (judged q) (is-good q) _ _ (omega arith) (room .if2 .left) _ _ _ _ _
           (set .put-set .ensures) (records .put-irregularities .ensures)
-          (end .put-end .ensures) (omega arith) (omega arith);
+          (end .put-end .ensures) (omega arith) (omega (arith, end .before .before .before .before .head-count .ensures));
     }
 
 pub derive-spec : {M : Type 1} → statement M
@@ -147,25 +129,19 @@ derive-spec =
     (tie.spec
     judge-requires
     returns
-    first-entry-requires
-    element-copy-out-end
-    add-end
+    cast-n
+    head-length-requires
     mul-end
-    add-end-2
-    element-copy-out-end-2
-    add-end-3
+    add-end
     mul-end-2
-    add-end-4
-    element-copy-out-length
+    add-end-2
     add-length
-    add-length-2
     returns-2
     put-set-requires
     put-irregularities-requires
-    cast-before
+    head-count-requires
     add-before
     add-before-2
-    add-before-3
     cast-put-end
     put-end-requires
     same-length

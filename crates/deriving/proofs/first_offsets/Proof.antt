@@ -17,20 +17,14 @@ Inv-loop n c many offsets₀ at₀ i₀ offsets at i =
 abbrev μ-loop : tie.MeasureT-loop
 μ-loop n c many offsets₀ at₀ i₀ offsets at i = many - i
 
-first-entry-requires : tie.Need-first-entry-requires Inv-loop μ-loop
-first-entry-requires c κs = search needs
-
-element-copy-out-at : tie.Need-element-copy-out-at Inv-loop μ-loop
-element-copy-out-at c = search needs
-
-add-at : tie.Need-add-at Inv-loop μ-loop
-add-at c = search needs
+head-length-requires : tie.Need-head-length-requires Inv-loop μ-loop
+head-length-requires c κs = search needs
 
 mul-at : tie.Need-mul-at Inv-loop μ-loop
 mul-at c = search needs
 
-add-at-2 : tie.Need-add-at-2 Inv-loop μ-loop
-add-at-2 c = search needs
+add-at : tie.Need-add-at Inv-loop μ-loop
+add-at c = search needs
 
 loop-holds : tie.Need-loop-holds Inv-loop μ-loop
 loop-holds c = (omega arith, omega arith, omega arith, refl, λ k l. absurd (omega arith))
@@ -44,20 +38,14 @@ array-write-offsets c = search needs
 mul-at-2 : tie.Need-mul-at-2 Inv-loop μ-loop
 mul-at-2 c = search needs
 
-element-copy-out-at-2 : tie.Need-element-copy-out-at-2 Inv-loop μ-loop
-element-copy-out-at-2 c = search needs
-
-element-copy-out-at-3 : tie.Need-element-copy-out-at-3 Inv-loop μ-loop
-element-copy-out-at-3 c = search needs
-
-add-at-3 : tie.Need-add-at-3 Inv-loop μ-loop
-add-at-3 c = search needs
+element-copy-out-at : tie.Need-element-copy-out-at Inv-loop μ-loop
+element-copy-out-at c = search needs
 
 mul-at-3 : tie.Need-mul-at-3 Inv-loop μ-loop
 mul-at-3 c = omega (arith, c .before .before .before .before .pre .each (c .before .before .loop .i) (omega arith))
 
-add-at-4 : tie.Need-add-at-4 Inv-loop μ-loop
-add-at-4 c = omega (arith, c .before .before .before .before .pre .each (c .before .before .loop .i) (omega arith))
+add-at-2 : tie.Need-add-at-2 Inv-loop μ-loop
+add-at-2 c = omega (arith, c .before .before .before .before .pre .each (c .before .before .loop .i) (omega arith))
 
 add-i : tie.Need-add-i Inv-loop μ-loop
 add-i c = search needs
@@ -89,20 +77,16 @@ first-offsets-spec =
     (tie.spec
     Inv-loop
     μ-loop
-    first-entry-requires
-    element-copy-out-at
-    add-at
+    head-length-requires
     mul-at
-    add-at-2
+    add-at
     loop-holds
     mul-offsets
     array-write-offsets
     mul-at-2
-    element-copy-out-at-2
-    element-copy-out-at-3
-    add-at-3
+    element-copy-out-at
     mul-at-3
-    add-at-4
+    add-at-2
     add-i
     loop-less
     loop-again

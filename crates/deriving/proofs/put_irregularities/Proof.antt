@@ -6,10 +6,9 @@ use Prim.Native.Nat.{_-_, _<_}
 use native.Mathlib.Omega.{arith}
 use lib.ListN.{length, getD}
 use borrow.Author.Needs.{needs}
-use Rattle.rules.specs.Tasks.{hyperperiod}
+use Rattle.rules.specs.Tasks.{hyperperiod, memory-set}
 use Rattle.rules.specs.Dispatcher.{zero-task}
 use Rattle.rules.proofs.Arrays.{slots-counted}
-use Rattle.timetables.specs.Judged.{tasks-of}
 use Rattle.timetables.proofs.Turns.{at-first, GoodStart, releases-many}
 use Rattle.deriving.proofs.ValidTurns.{entry-inside, entry-task, entry-good, few-started}
 use Rattle.deriving.proofs.Putting.{PutFrom, can-few, put-first, put-next, put-all}
@@ -19,7 +18,7 @@ use Rattle.deriving.proofs.put_irregularities.Tie as tie
 
 abbrev Inv-loop : tie.InvT-loop
 Inv-loop image listed out₀ s n release₀ next₀ free₀ idle-at₀ offsets₀ at₀ j₀ out release next free idle-at offsets at j =
-    PutFrom image s (hyperperiod (tasks-of s)) listed release next free at j idle-at offsets out₀ out
+    PutFrom image s (hyperperiod (memory-set s)) listed release next free at j idle-at offsets out₀ out
 
 abbrev μ-loop : tie.MeasureT-loop
 μ-loop image listed out₀ s n release₀ next₀ free₀ idle-at₀ offsets₀ at₀ j₀ out release next free idle-at offsets at j = listed - j
@@ -55,22 +54,22 @@ cast-n c = search needs
 first-releases-requires : tie.Need-first-releases-requires Inv-loop μ-loop
 first-releases-requires c κs = search needs
 
-first-entry-requires : tie.Need-first-entry-requires Inv-loop μ-loop
-first-entry-requires c κs = search needs
+head-length-requires : tie.Need-head-length-requires Inv-loop μ-loop
+head-length-requires c κs = search needs
 
 first-offsets-requires : tie.Need-first-offsets-requires Inv-loop μ-loop
 first-offsets-requires c κs = can-few (c .before .before .before .before .pre)
 
-first-entry-requires-2 : tie.Need-first-entry-requires-2 Inv-loop μ-loop
-first-entry-requires-2 c κs = search needs
+head-length-requires-2 : tie.Need-head-length-requires-2 Inv-loop μ-loop
+head-length-requires-2 c κs = search needs
 
 loop-holds : tie.Need-loop-holds Inv-loop μ-loop
 loop-holds c =
     let start = c .before .before .before .before .before .before in
     let slots : length (start .args .t2 .tasks) ≡ 16 = search (needs, slots-counted) in
     put-first (start .pre) (c .before .first-offsets .ensures)
-    (at-first (start .pre .valid .stand) slots (c .before .before .before .first-releases .ensures) (c .first-entry2 .ensures)) _
-    (c .before .before .first-entry .ensures)
+    (at-first (start .pre .valid .stand) slots (c .before .before .before .first-releases .ensures) (c .head-length2 .ensures)) _
+    (c .before .before .head-length .ensures)
 
 entry-at-requires : tie.Need-entry-at-requires Inv-loop μ-loop
 entry-at-requires c κs = entry-inside (c .before .loop .inv .walk) (c .loop-test .taken)
@@ -109,14 +108,8 @@ sub-t34 c =
 put-idle-requires : tie.Need-put-idle-requires Inv-loop μ-loop
 put-idle-requires c κs = search needs
 
-element-copy-out-idle-at : tie.Need-element-copy-out-idle-at Inv-loop μ-loop
-element-copy-out-idle-at c = search needs
-
 add-idle-at : tie.Need-add-idle-at Inv-loop μ-loop
-add-idle-at c = search needs
-
-add-idle-at-2 : tie.Need-add-idle-at-2 Inv-loop μ-loop
-add-idle-at-2 c =
+add-idle-at c =
     let tested = c .before .before .before .before .before .before .before .before in
     let read = c .before .before .before .before .before .before .before .before .before .before .before .before in
     omega (
@@ -138,29 +131,23 @@ mul-put-inversion c = omega (arith, in-slots (c .before .before .before .before 
 array-read-put-inversion : tie.Need-array-read-put-inversion Inv-loop μ-loop
 array-read-put-inversion c = omega (arith, in-slots (c .before .before .before .before .before .before .before .before .before))
 
-mul-t56 : tie.Need-mul-t56 Inv-loop μ-loop
-mul-t56 c = omega (arith, in-slots (c .before .before .before .before .before .before .before .before .before))
+mul-t45 : tie.Need-mul-t45 Inv-loop μ-loop
+mul-t45 c = omega (arith, in-slots (c .before .before .before .before .before .before .before .before .before))
 
-array-read-t59 : tie.Need-array-read-t59 Inv-loop μ-loop
-array-read-t59 c = omega (arith, in-slots (c .before .before .before .before .before .before .before .before .before))
+array-read-t48 : tie.Need-array-read-t48 Inv-loop μ-loop
+array-read-t48 c = omega (arith, in-slots (c .before .before .before .before .before .before .before .before .before))
 
-mul-t60 : tie.Need-mul-t60 Inv-loop μ-loop
-mul-t60 c = omega (arith, in-slots (c .before .before .before .before .before .before .before .before .before))
+mul-t49 : tie.Need-mul-t49 Inv-loop μ-loop
+mul-t49 c = omega (arith, in-slots (c .before .before .before .before .before .before .before .before .before))
 
-array-read-t63 : tie.Need-array-read-t63 Inv-loop μ-loop
-array-read-t63 c = omega (arith, in-slots (c .before .before .before .before .before .before .before .before .before))
+array-read-t52 : tie.Need-array-read-t52 Inv-loop μ-loop
+array-read-t52 c = omega (arith, in-slots (c .before .before .before .before .before .before .before .before .before))
 
-sub-t64 : tie.Need-sub-t64 Inv-loop μ-loop
-sub-t64 c = omega (arith, good-turn (c .before .before .before .before .before .before .before .before .before .before) .is-released)
+sub-t53 : tie.Need-sub-t53 Inv-loop μ-loop
+sub-t53 c = omega (arith, good-turn (c .before .before .before .before .before .before .before .before .before .before) .is-released)
 
 put-inversion-requires : tie.Need-put-inversion-requires Inv-loop μ-loop
 put-inversion-requires c κs = search needs
-
-element-copy-out-offsets : tie.Need-element-copy-out-offsets Inv-loop μ-loop
-element-copy-out-offsets c = search needs
-
-add-offsets : tie.Need-add-offsets Inv-loop μ-loop
-add-offsets c = search needs
 
 mul-offsets : tie.Need-mul-offsets Inv-loop μ-loop
 mul-offsets c =
@@ -172,8 +159,8 @@ array-read-offsets c =
     let read = c .before .before .before .before .before .before .before .before .before .before .before .before .before in
     omega (arith, in-slots read)
 
-add-offsets-2 : tie.Need-add-offsets-2 Inv-loop μ-loop
-add-offsets-2 c =
+add-offsets : tie.Need-add-offsets Inv-loop μ-loop
+add-offsets c =
     let waited = c .before .before .before .before .before .before in
     let read = c .before .before .before .before .before .before .before .before .before .before .before .before .before in
     omega (
@@ -223,14 +210,8 @@ array-write-release c = omega (arith, in-slots (c .before .before .before .befor
 add-free : tie.Need-add-free Inv-loop μ-loop
 add-free c = omega (arith, good-turn (c .before .before .before .before .before .before .before .before .before .before .before) .end-fits)
 
-element-copy-out-at : tie.Need-element-copy-out-at Inv-loop μ-loop
-element-copy-out-at c = search needs
-
 add-at : tie.Need-add-at Inv-loop μ-loop
-add-at c = search needs
-
-add-at-2 : tie.Need-add-at-2 Inv-loop μ-loop
-add-at-2 c =
+add-at c =
     let read = c .before .before .before .before .before .before .before .before .before .before .before in
     let start = read .before .before .before .before .before .before .before .before .before in
     omega (arith, entry-inside (read .before .before .loop .inv .walk) (read .before .loop-test .taken), start .good .0)
@@ -267,9 +248,9 @@ put-irregularities-spec =
     μ-loop
     cast-n
     first-releases-requires
-    first-entry-requires
+    head-length-requires
     first-offsets-requires
-    first-entry-requires-2
+    head-length-requires-2
     loop-holds
     entry-at-requires
     cast-i
@@ -279,23 +260,19 @@ put-irregularities-spec =
     instant-requires
     sub-t34
     put-idle-requires
-    element-copy-out-idle-at
     add-idle-at
-    add-idle-at-2
     lower-waits-requires
     mul-put-inversion
     array-read-put-inversion
-    mul-t56
-    array-read-t59
-    mul-t60
-    array-read-t63
-    sub-t64
+    mul-t45
+    array-read-t48
+    mul-t49
+    array-read-t52
+    sub-t53
     put-inversion-requires
-    element-copy-out-offsets
-    add-offsets
     mul-offsets
     array-read-offsets
-    add-offsets-2
+    add-offsets
     array-write-offsets
     mul-next
     array-read-next
@@ -306,9 +283,7 @@ put-irregularities-spec =
     add-release
     array-write-release
     add-free
-    element-copy-out-at
     add-at
-    add-at-2
     add-j
     loop-less
     loop-again

@@ -3,8 +3,8 @@ use mathlib.Core.Path.{_≡_, refl}
 use Prim.Native.Nat.{ℕ, _+_, _*_, _-_, _≤_}
 use native.Mathlib.Omega.{arith}
 use Rattle.numbers.specs.Numbers.{number-at}
-use Rattle.records.specs.Tables.{Filled}
-use Rattle.records.proofs.Arrays.{filled-none, filled-more}
+use Rattle.sets.specs.Kept.{Filled}
+use Rattle.sets.proofs.Arrays.{filled-none, filled-more}
 use borrow.Author.Needs.{needs}
 use Rattle.dispatcher.proofs.first_releases.Statement.{statement}
 use Rattle.dispatcher.proofs.first_releases.Tie as tie

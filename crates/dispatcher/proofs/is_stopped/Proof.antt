@@ -3,7 +3,7 @@ use mathlib.Core.Path.{_≡_, refl, sym, _∙_, ap}
 use Prim.Native.Nat.{_-_, _≤_}
 use native.Mathlib.Omega.{arith}
 use lib.ListN.{drop, drop-of-length-le}
-use Rattle.rules.specs.Dispatcher.{all-zero}
+use Rattle.rules.specs.Dispatcher.{all-zero, number-count}
 use Rattle.numbers.proofs.StateNumbers.{numbers-of-state}
 use Rattle.dispatcher.proofs.Zeros.{not-zero-here, zero-here}
 use borrow.Author.Needs.{needs}
@@ -11,10 +11,10 @@ use Rattle.dispatcher.proofs.is_stopped.Statement.{statement}
 use Rattle.dispatcher.proofs.is_stopped.Tie as tie
 
 abbrev Inv-loop : tie.InvT-loop
-Inv-loop numbers i₀ i = (i ≤ 119) × (all-zero numbers ≡ all-zero (drop i numbers))
+Inv-loop numbers i₀ i = (i ≤ number-count) × (all-zero numbers ≡ all-zero (drop i numbers))
 
 abbrev μ-loop : tie.MeasureT-loop
-μ-loop numbers i₀ i = 119 - i
+μ-loop numbers i₀ i = number-count - i
 
 loop-holds : tie.Need-loop-holds Inv-loop μ-loop
 loop-holds c = (omega arith, refl)

@@ -1,141 +1,133 @@
 -- `dispatcher::start_next` meets its contract: the turn is made out of the next start that was answered. Assumes nothing.
 use mathlib.Core.Path.{_≡_, _∙_, ap}
-use Prim.Native.Nat.{_<_}
+use Prim.Native.Nat.{_+_, _*_, _<_}
 use native.Mathlib.Omega.{arith}
-use lib.ListN.{length, getD}
+use Rattle.rules.specs.declared.StartAnswer.the-variants.{Start}
 use Rattle.rules.specs.declared.Dispatcher.{Dispatcher as State}
-use Rattle.rules.specs.Refusals.{refusal}
-use Rattle.rules.specs.Dispatcher.{refused}
-use Rattle.rules.proofs.Arrays.{slot-element}
-use Rattle.sets.proofs.Instants.{steps-fit}
+use Rattle.rules.specs.Priority.{slot}
+use Rattle.rules.specs.Dispatcher.{set-of}
+use Rattle.numbers.specs.Numbers.{state-from}
+use Rattle.sets.specs.Kept.{tasks-in, hyperperiod-in}
 use Rattle.decision.specs.declared.Found.{Found}
 use Rattle.decision.specs.declared.NextStart.the-variants.{Starts}
-use Rattle.dispatcher.proofs.Starting.{stuck-next, found-task, start-turn}
+use Rattle.decision.specs.Next.{FindsNext}
+use Rattle.dispatcher.specs.States.{stands-at}
+use Rattle.dispatcher.proofs.Lent.{next-lent}
+use Rattle.dispatcher.proofs.Starting.{stuck-next, found-task, found-turn}
+use Rattle.dispatcher.proofs.StoredStarts.{stored-turn, stored-as}
 use borrow.Author.Needs.{needs}
 use Rattle.dispatcher.proofs.start_next.Statement.{statement}
 use Rattle.dispatcher.proofs.start_next.Tie as tie
 
--- arrays have sixteen slots
-next-slots : (c : tie.Start) → length (c .args .t7) ≡ 16
-next-slots c = search needs
+-- the state that the start is made from
+abbrev state : tie.After-one-start → State
+state c = state-from (c .before .before .before .before .before .before .before .before .before .before .before .args .numbers .now)
 
-offset-slots : (c : tie.Start) → length (c .args .t10) ≡ 16
-offset-slots c = search needs
+-- the answer is the next start from where the state stands
+answered : (c : tie.After-one-start) →
+    FindsNext (c .before .before .before .before .before .before .before .before .before .before .before .args .image .now) (c .before .before .before .before .before .before .before .before .before .before .before .args .kept .now) (stands-at (state c) (c .before .before .before .before .before .before .before .before .before .before .before .args .release .now) (c .before .before .before .before .before .before .before .before .before .before .before .args .free)) (c .one-start .result)
+answered c = rw (c .before .before .before .before .before .before .numbers-from .ensures, c .before .before .before .numbers-from2 .ensures) at (c .one-start .ensures)
 
 -- what is known of a start that is found
 found-here : (c : tie.After-one-start) (f : Found) → c .one-start .result ≡ Starts f →
-    (f .task < 16) × (getD (c .before .before .before .before .before .args .t7) (f .task) 0 < 65535)
-found-here c f e =
-    let start = c .before .before .before .before .before in
-    let found =
-    found-task (start .args .image .now) (start .args .d) (start .pre .0) (start .args .free) (start .args .t10) (start .args .idle) _
-    (c .one-start .ensures) f e in (
-      omega (arith, found .0, start .pre .0 .set .few),
-      omega (arith, found .1, slot-element (start .args .t7) (f .task), start .pre .0 .set .good .short),
-    )
+    (f .task < tasks-in (c .before .before .before .before .before .before .before .before .before .before .before .args .kept .now)) × (slot (state c .next) (f .task) < hyperperiod-in (c .before .before .before .before .before .before .before .before .before .before .before .args .kept .now))
+found-here c f e = found-task (c .before .before .before .before .before .before .before .before .before .before .before .args .image .now) (state c) (c .before .before .before .before .before .before .before .before .before .before .before .pre .fits) _ (answered c) f e
 
-cast-n : tie.Need-cast-n
-cast-n c = search needs
+array-write-instants : tie.Need-array-write-instants
+array-write-instants c = search needs
+
+element-copy-out-instants : tie.Need-element-copy-out-instants
+element-copy-out-instants c = search needs
+
+array-write-instants-2 : tie.Need-array-write-instants-2
+array-write-instants-2 c = search needs
+
+numbers-from-requires : tie.Need-numbers-from-requires
+numbers-from-requires c κs = search needs
+
+numbers-from-requires-2 : tie.Need-numbers-from-requires-2
+numbers-from-requires-2 c κs = search needs
 
 one-start-requires : tie.Need-one-start-requires
 one-start-requires c κs =
-    let start = c .before .before .before .before in
-    ((_, start .pre .0), start .pre .1)
+    let start = c .before .before .before .before .before .before .before .before .before .before in
+    (set-of (state-from (start .args .numbers .now)), rw (c .before .before .before .before .before .numbers-from .ensures, c .before .before .numbers-from2 .ensures) (start .pre .fits))
 
 enum-told : tie.Need-enum-told
 enum-told c = search needs
 
-stopped-requires : tie.Need-stopped-requires
-stopped-requires c κs = search needs
-
-refused-requires : tie.Need-refused-requires
-refused-requires c κs = search needs
+stop-requires : tie.Need-stop-requires
+stop-requires c κs = search needs
 
 enum-known-f : tie.Need-enum-known-f
 enum-known-f c = search needs
 
-cast-i : tie.Need-cast-i
-cast-i c = search needs
+store-start-requires : tie.Need-store-start-requires
+store-start-requires c κs =
+    let start = c .before .before .before .before .before .before .before .before .before .before .before .before .before .before .before in
+    let f = c .before .before .f .given .0 .0 in
+    let found = found-here (c .before .before .before .before) f (c .before .before .f .given .1) in
+    let few = start .pre .fits .set .few in
+    let next = next-lent (start .args .numbers .now) (f .task) (omega (arith, found .0, few)) in
+    (omega (arith, found .0, few), (omega (arith, found .1, next, start .pre .fits .set .good .short), start .pre .long))
 
-mul-job : tie.Need-mul-job
-mul-job c = search needs
+element-copy-out-cycle : tie.Need-element-copy-out-cycle
+element-copy-out-cycle c = search needs
 
-array-read-job : tie.Need-array-read-job
-array-read-job c =
-    let at-one-start = c .before .before .before .before in
-    found-here at-one-start _ (c .before .before .f .given .1) .0
+element-copy-out-t33 : tie.Need-element-copy-out-t33
+element-copy-out-t33 c = search needs
 
-add-after : tie.Need-add-after
-add-after c =
-    let at-one-start = c .before .before .before .before in
-    omega (arith, found-here at-one-start _ (c .before .before .f .given .1) .1)
+index-1-absolute : tie.Need-index-1-absolute
+index-1-absolute c = search needs
 
-mul-after : tie.Need-mul-after
-mul-after c = search needs
+index-2-absolute : tie.Need-index-2-absolute
+index-2-absolute c = search needs
 
-array-write-after : tie.Need-array-write-after
-array-write-after c =
-    let at-one-start = c .before .before .before .before in
-    found-here at-one-start _ (c .before .before .f .given .1) .0
-
-mul-moved : tie.Need-mul-moved
-mul-moved c = search needs
-
-array-write-moved : tie.Need-array-write-moved
-array-write-moved c =
-    let at-one-start = c .before .before .before .before in
-    found-here at-one-start _ (c .before .before .f .given .1) .0
-
-mul-t42 : tie.Need-mul-t42
-mul-t42 c =
-    let start = c .before .before .before .before .before .before .before .before .before in
-    omega (arith, steps-fit (start .args .cycle) (start .args .h) (omega arith) (omega arith))
-
-cast-t43 : tie.Need-cast-t43
-cast-t43 c = search needs
-
-add-t44 : tie.Need-add-t44
-add-t44 c =
-    let start = c .before .before .before .before .before .before .before .before .before .before in
-    omega (arith, steps-fit (start .args .cycle) (start .args .h) (omega arith) (omega arith))
+absolute-requires : tie.Need-absolute-requires
+absolute-requires c κs = search needs
 
 returns : tie.Need-returns
 returns c =
-    let at-one-start = c .before .before .before .before in
-    let start = at-one-start .before .before .before .before .before in
-    c .refused .ensures
-    ∙ ap (λ (s : State). refused (refusal 25 0) s) (c .before .stopped .ensures)
-    ∙ stuck-next (start .args .image .now) (start .args .d) (start .pre .0) (start .args .free) (start .args .t10) (start .args .idle) _
-    (at-one-start .one-start .ensures) (start .args .cycle) _ (c .before .before .enum-told .given .1)
+    let start = c .before .before .before .before .before .before .before .before .before .before .before .before .before .before .before in
+    stored-as (stuck-next (start .args .image .now) (state (c .before .before .before .before)) (start .pre .fits) _ (answered (c .before .before .before .before)) _ (c .before .before .enum-told .given .1))
+    (c .stop .ensures)
 
 returns-2 : tie.Need-returns-2
 returns-2 c =
-    let at-f = c .before .before .before .before .before in
-    let at-one-start = at-f .before .before in
-    let start = at-one-start .before .before .before .before .before in
-    start-turn (start .args .image .now) (start .args .d) (start .pre .0) (start .args .free) (start .args .t10) (start .args .idle) _
-    (at-one-start .one-start .ensures) (start .args .cycle) _ (at-f .f .given .1) (next-slots start) (offset-slots start)
+    let start = c .before .before .before .before .before .before .before .before .before .before .before .before .before .before .before .before .before .before .before .before in
+    let f = c .before .before .before .before .before .before .before .f .given .0 .0 in
+    let stored = c .before .before .before .before .store-start .ensures in
+    let h = hyperperiod-in (start .args .kept .now) in
+    stored-as (found-turn (start .args .image .now) (state (c .before .before .before .before .before .before .before .before .before)) (start .pre .fits) _ (answered (c .before .before .before .before .before .before .before .before .before)) f (c .before .before .before .before .before .before .before .f .given .1))
+    (stored-turn _ _
+    (λ k.
+    Start
+    (record {
+      task = f .task;
+      job = ap (λ (d : State). d .running .job) (stored .0) k;
+      cycle = ap (λ (d : State). d .cycle) (stored .0) k;
+      time = (c .absolute .ensures ∙ ap (λ (d : State). d .cycle * h + f .start) (stored .0)) k;
+    }))
+    (stored .1) (stored .0))
 
 pub start-next-spec : {M : Type 1} → statement M
 start-next-spec =
     tie.close
     (tie.spec
-    cast-n
+    array-write-instants
+    element-copy-out-instants
+    array-write-instants-2
+    numbers-from-requires
+    numbers-from-requires-2
     one-start-requires
     enum-told
-    stopped-requires
-    refused-requires
+    stop-requires
     enum-known-f
-    cast-i
-    mul-job
-    array-read-job
-    add-after
-    mul-after
-    array-write-after
-    mul-moved
-    array-write-moved
-    mul-t42
-    cast-t43
-    add-t44
+    store-start-requires
+    element-copy-out-cycle
+    element-copy-out-t33
+    index-1-absolute
+    index-2-absolute
+    absolute-requires
     returns
     returns-2)

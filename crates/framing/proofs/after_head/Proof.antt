@@ -1,18 +1,13 @@
 -- `framing::after_head` meets its contract: TS's tests in turn, on the values that the rule book reads. Assumes nothing.
 use mathlib.Core.Path.{_≡_, _∙_, ap}
-use Prim.Native.Nat.{_+_}
-use native.Mathlib.Omega.{arith}
 use borrow.Author.Needs.{needs}
 use lib.ListN.{drop}
-use Rattle.rules.specs.Marks.{TS, body-length, values}
-use Rattle.images.specs.Bodies.{part-of, head-of, to-head}
+use Rattle.rules.specs.Marks.{TS, values}
+use Rattle.images.specs.Bodies.{head-of, to-head}
 use Rattle.images.proofs.BodyLaws.{head-body-is}
 use Rattle.framing.proofs.RecordLaws.{bad-edition, bad-kind, no-tasks, many-tasks, good-head}
 use Rattle.framing.proofs.after_head.Statement.{statement}
 use Rattle.framing.proofs.after_head.Tie as tie
-
-body-of-requires : tie.Need-body-of-requires
-body-of-requires c κs = search needs
 
 add-part : tie.Need-add-part
 add-part c = search needs
@@ -25,14 +20,13 @@ head-body-requires c κs = search needs
 
 -- what was read are TS's values
 abbrev start : tie.After-head-body → tie.Start
-start c = c .before .before .before .before .before
+start c = c .before .before .before .before
 
 read : (c : tie.After-head-body) → c .head-body .result ≡ to-head (values TS (drop (start c .args .s .offset) (start c .args .image .now)))
 read c =
     let a = start c .args in
-    let p = c .before in
     c .head-body .ensures
-    ∙ ap head-of (p .part .ensures ∙ ap (part-of (a .image .now) (a .s .offset + 2)) (p .before .before .body-of .ensures))
+    ∙ ap head-of (c .before .part .ensures)
     ∙ head-body-is (a .image .now) (a .s .offset) (start c .pre .not-cut)
 
 refuses-requires : tie.Need-refuses-requires
@@ -72,20 +66,11 @@ returns-4 c =
 cast-n : tie.Need-cast-n
 cast-n c = search needs
 
-add-t8 : tie.Need-add-t8
-add-t8 c = search needs
+add-t7 : tie.Need-add-t7
+add-t7 c = search needs
 
-add-t10 : tie.Need-add-t10
-add-t10 c = search needs
-
--- the length that was read is that of TS's body
-len-is : (c : tie.After-head-body) → c .before .before .before .body-of .result ≡ body-length TS
-len-is c = c .before .before .before .body-of .ensures
-
-add-t11 : tie.Need-add-t11
-add-t11 c =
-    let e = c .before .before .before .before .before .before .before .before .before .before .before in
-    omega (arith, len-is e, start e .pre .not-cut)
+add-t9 : tie.Need-add-t9
+add-t9 c = search needs
 
 returns-5 : tie.Need-returns-5
 returns-5 c =
@@ -93,14 +78,12 @@ returns-5 c =
     let n = m .before .before in
     let k = n .before .before in
     let e = k .before .before in
-    let h = e .before .before in
-    good-head _ _ _ _ (read h) (e .if1 .left) (k .if2 .left) (n .if3 .left) (m .if4 .left) _ (len-is h)
+    good-head _ _ _ _ (read (e .before .before)) (e .if1 .left) (k .if2 .left) (n .if3 .left) (m .if4 .left)
 
 pub after-head-spec : {M : Type 1} → statement M
 after-head-spec =
     tie.close
     (tie.spec
-    body-of-requires
     add-part
     part-requires
     head-body-requires
@@ -113,7 +96,6 @@ after-head-spec =
     refuses-requires-4
     returns-4
     cast-n
-    add-t8
-    add-t10
-    add-t11
+    add-t7
+    add-t9
     returns-5)

@@ -8,28 +8,19 @@ use borrow.Author.Needs.{needs}
 use lib.ListN.{set}
 use Rattle.rules.specs.declared.Task.{Task}
 use Rattle.rules.specs.Marks.{TS, TK, size}
-use Rattle.images.specs.Bodies.{part-of, task-of}
+use Rattle.images.specs.Bodies.{task-of}
 use Rattle.framing.proofs.SetLaws.{slots, slots-empty, slots-more, set-filled}
 use Rattle.framing.proofs.read_set.Statement.{statement}
 use Rattle.framing.proofs.read_set.Tie as tie
 
 abbrev Inv-loop : tie.InvT-loop
-Inv-loop image n tasks₀ len at₀ i₀ tasks at i = (i ≤ n) × (at ≡ size TS + i * size TK) × (tasks ≡ slots image i)
+Inv-loop image n tasks₀ at₀ i₀ tasks at i = (i ≤ n) × (at ≡ size TS + i * size TK) × (tasks ≡ slots image i)
 
 abbrev μ-loop : tie.MeasureT-loop
-μ-loop image n tasks₀ len at₀ i₀ tasks at i = n - i
-
-body-of-requires : tie.Need-body-of-requires Inv-loop μ-loop
-body-of-requires c κs = search needs
-
-body-of-requires-2 : tie.Need-body-of-requires-2 Inv-loop μ-loop
-body-of-requires-2 c κs = search needs
-
-add-at : tie.Need-add-at Inv-loop μ-loop
-add-at c = search needs
+μ-loop image n tasks₀ at₀ i₀ tasks at i = n - i
 
 loop-holds : tie.Need-loop-holds Inv-loop μ-loop
-loop-holds c = (omega arith, omega (arith, c .body-of2 .ensures), slots-empty _)
+loop-holds c = (omega arith, omega arith, slots-empty _)
 
 add-part : tie.Need-add-part Inv-loop μ-loop
 add-part c = search needs
@@ -46,11 +37,8 @@ mul-tasks c = search needs
 array-set-from-tasks : tie.Need-array-set-from-tasks Inv-loop μ-loop
 array-set-from-tasks c = search needs
 
-add-at-2 : tie.Need-add-at-2 Inv-loop μ-loop
-add-at-2 c = search needs
-
-add-at-3 : tie.Need-add-at-3 Inv-loop μ-loop
-add-at-3 c = search needs
+add-at : tie.Need-add-at Inv-loop μ-loop
+add-at c = search needs
 
 add-i : tie.Need-add-i Inv-loop μ-loop
 add-i c = search needs
@@ -62,16 +50,15 @@ loop-again : tie.Need-loop-again Inv-loop μ-loop
 loop-again c =
     let l = c .before .before .before in
     let i = l .loop .inv in
-    let image = l .before .before .before .before .args .image .now in
-    let len = l .before .before .body-of .ensures in
-    let read = c .task-body .ensures ∙ ap task-of (c .before .part .ensures ∙ ap (part-of image (l .loop .at + 2)) len) in (
+    let image = l .before .before .args .image .now in
+    let read = c .task-body .ensures ∙ ap task-of (c .before .part .ensures) in (
       omega arith,
-      omega (arith, len),
+      omega arith,
       ap₂ (λ (ts : List Task) (t : Task). set ts (l .loop .i) t) (i .2) read ∙ slots-more image (l .loop .at) (l .loop .i) (omega arith) (i .1),
     )
 
-cast-t16 : tie.Need-cast-t16 Inv-loop μ-loop
-cast-t16 c = search needs
+cast-t14 : tie.Need-cast-t14 Inv-loop μ-loop
+cast-t14 c = search needs
 
 returns : tie.Need-returns Inv-loop μ-loop
 returns c = let i = c .before .loop .inv in set-filled _ _ (c .before .loop .i) _ (omega arith) (i .2)
@@ -82,19 +69,15 @@ read-set-spec =
     (tie.spec
     Inv-loop
     μ-loop
-    body-of-requires
-    body-of-requires-2
-    add-at
     loop-holds
     add-part
     part-requires
     task-body-requires
     mul-tasks
     array-set-from-tasks
-    add-at-2
-    add-at-3
+    add-at
     add-i
     loop-less
     loop-again
-    cast-t16
+    cast-t14
     returns)

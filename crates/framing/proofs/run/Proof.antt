@@ -7,23 +7,20 @@ use borrow.Author.Needs.{needs}
 use borrow.Author.Tests.{not-false}
 use Rattle.rules.specs.Marks.{size}
 use Rattle.images.specs.Table.{mark-of}
-use Rattle.images.proofs.TableLaws.{short-body, stands-whole}
+use Rattle.images.proofs.TableLaws.{stands-whole}
 use Rattle.framing.specs.Frames.{RunOf}
 use Rattle.framing.proofs.Runs.{none-run, one-more}
 use Rattle.framing.proofs.run.Statement.{statement}
 use Rattle.framing.proofs.run.Tie as tie
 
 abbrev Inv-records : tie.InvT-records
-Inv-records image from k most len at₀ count₀ at count = (at ≡ from + count * size (mark-of k)) × RunOf image from (mark-of k) most count
+Inv-records image from k most size₀ at₀ count₀ at count = (at ≡ from + count * size (mark-of k)) × RunOf image from (mark-of k) most count
 
 abbrev μ-records : tie.MeasureT-records
-μ-records image from k most len at₀ count₀ at count = most - count
+μ-records image from k most size₀ at₀ count₀ at count = most - count
 
-body-of-requires : tie.Need-body-of-requires Inv-records μ-records
-body-of-requires c κs = search needs
-
-add-size : tie.Need-add-size Inv-records μ-records
-add-size c = omega (arith, c .body-of .ensures, short-body (mark-of (c .before .before .args .k)))
+size-of-requires : tie.Need-size-of-requires Inv-records μ-records
+size-of-requires c κs = search needs
 
 records-holds : tie.Need-records-holds Inv-records μ-records
 records-holds c = none-run _ _ _ _ (c .before .before .pre)
@@ -37,7 +34,7 @@ add-at c =
     let a = i .before .before .before .before .before .args in
     omega (
       arith,
-      i .before .before .before .body-of .ensures,
+      i .before .before .before .size-of .ensures,
       stands-whole (a .image .now) (i .before .before .records .at) (mark-of (a .k)) (sym (i .stands .ensures) ∙ not-false _ (c .if2 .left)),
     )
 
@@ -51,7 +48,7 @@ records-again : tie.Need-records-again Inv-records μ-records
 records-again c =
     let i = c .before in
     let r = i .before .before in
-    one-more _ _ _ _ _ _ _ (r .before .body-of .ensures) (r .records .inv .0) (r .records .inv .1) (i .before .if1 .left)
+    one-more _ _ _ _ _ _ _ (r .before .size-of .ensures) (r .records .inv .0) (r .records .inv .1) (i .before .if1 .left)
     (sym (i .stands .ensures) ∙ not-false _ (c .if2 .left))
 
 returns : tie.Need-returns Inv-records μ-records
@@ -66,8 +63,7 @@ run-spec =
     (tie.spec
     Inv-records
     μ-records
-    body-of-requires
-    add-size
+    size-of-requires
     records-holds
     stands-requires
     add-at

@@ -1,17 +1,14 @@
 -- `hervantyu::hv_begin` meets its contract: it tells what beginning answers, and the state is the rule book's. Assumes nothing.
 use mathlib.Core.Path.{_∙_, ap}
 use borrow.Author.Needs.{needs}
-use Rattle.rules.specs.declared.Turn.{Turn}
+use Rattle.rules.specs.declared.StartAnswer.{StartAnswer}
 use Rattle.rules.specs.Refusals.{start-tells}
 use Rattle.hervantyu.proofs.ToldAnswers.{turn-told}
 use Rattle.hervantyu.proofs.hv_begin.Statement.{statement}
 use Rattle.hervantyu.proofs.hv_begin.Tie as tie
 
-begin-requires : tie.Need-begin-requires
-begin-requires c κs = search needs
-
-numbers-of-requires : tie.Need-numbers-of-requires
-numbers-of-requires c κs = search needs
+begin-numbers-requires : tie.Need-begin-numbers-requires
+begin-numbers-requires c κs = search needs
 
 place-in-requires : tie.Need-place-in-requires
 place-in-requires c κs = search needs
@@ -21,14 +18,12 @@ told-start-requires c κs = search needs
 
 returns : tie.Need-returns
 returns c =
-    let at-numbers = c .before .before .before in
-    let begun = at-numbers .before .before .begin .ensures in
+    let at-place = c .before .before in
+    let begun = at-place .before .begin-numbers .ensures in
     record {
-      turn-told = turn-told begun (c .told-start .ensures) (at-numbers .numbers-of .ensures);
-      its-place = c .before .before .place-in .ensures ∙ ap (λ (t : Turn). start-tells (t .answer) .place) begun;
+      turn-told = turn-told begun (c .told-start .ensures);
+      its-place = at-place .place-in .ensures ∙ ap (λ (a : StartAnswer). start-tells a .place) (begun .its-answer);
     }
 
 pub hv-begin-spec : {M : Type 1} → statement M
-hv-begin-spec =
-    tie.close
-    (tie.spec begin-requires numbers-of-requires place-in-requires told-start-requires returns)
+hv-begin-spec = tie.close (tie.spec begin-numbers-requires place-in-requires told-start-requires returns)

@@ -1,6 +1,6 @@
 -- `hervantyu::hv_go_on` meets its contract: it tells what going on answers, and the state is the rule book's. Assumes nothing.
 use borrow.Author.Needs.{needs}
-use Rattle.hervantyu.proofs.ToldAnswers.{start-told}
+use Rattle.hervantyu.proofs.ToldAnswers.{turn-told}
 use Rattle.hervantyu.proofs.hv_go_on.Statement.{statement}
 use Rattle.hervantyu.proofs.hv_go_on.Tie as tie
 
@@ -11,9 +11,7 @@ told-start-requires : tie.Need-told-start-requires
 told-start-requires c κs = search needs
 
 returns : tie.Need-returns
-returns c =
-    let gone-on = c .before .before .go-on-numbers .ensures in
-    record { told = start-told (gone-on .its-answer) (c .told-start .ensures); its-numbers = gone-on .its-numbers; its-state = gone-on .its-state }
+returns c = turn-told (c .before .before .go-on-numbers .ensures) (c .told-start .ensures)
 
 pub hv-go-on-spec : {M : Type 1} → statement M
 hv-go-on-spec = tie.close (tie.spec go-on-numbers-requires told-start-requires returns)

@@ -58,7 +58,7 @@ list-timetable-requires : tie.Need-list-timetable-requires
 list-timetable-requires c κs =
     let known = made (c .before .before .before) in
     record {
-      tasks = known .tasks;
+      set = known .set;
       entries = known .entries;
       image = known .image;
       room = omega (arith, text-short (known .image .good) (known .image .valid));
@@ -83,7 +83,7 @@ returns-2 : tie.Need-returns-2
 unfolding Lists
 returns-2 c =
     let known = made (c .before .before .before .before .before .before) in
-    rw (known .listed) (c .before .before .list-timetable .ensures (known .tasks) (known .entries) (known .image))
+    rw (known .listed) (c .before .before .list-timetable .ensures (known .set) (known .entries) (known .image))
 
 pub list-rebuilt-spec : {M : Type 1} → statement M
 list-rebuilt-spec =

@@ -27,17 +27,15 @@ cast-n c = search needs
 read-set-requires : tie.Need-read-set-requires Inv-loop μ-loop
 read-set-requires c κs = set-inside (c .before .before .before .pre) (c .tasks-in .result) (c .tasks-in .ensures)
 
-mul-at : tie.Need-mul-at Inv-loop μ-loop
-mul-at c = omega (arith, set-inside (c .before .before .before .before .pre) (c .before .tasks-in .result) (c .before .tasks-in .ensures))
-
-add-at : tie.Need-add-at Inv-loop μ-loop
-add-at c = omega (arith, set-inside (c .before .before .before .before .pre) (c .before .tasks-in .result) (c .before .tasks-in .ensures))
+head-length-requires : tie.Need-head-length-requires Inv-loop μ-loop
+head-length-requires c κs = search needs
 
 loop-holds : tie.Need-loop-holds Inv-loop μ-loop
 loop-holds c =
-    let can = c .before .before .before .before .pre in
-    let told = tasks-told can (c .before .tasks-in .result) (c .before .tasks-in .ensures) in
-    listed-none can (c .read-set .ensures ∙ rw told) (omega arith)
+    let read = c .before in
+    let can = read .before .before .before .before .pre in
+    let told = tasks-told can (read .before .tasks-in .result) (read .before .tasks-in .ensures) in
+    listed-none can (read .read-set .ensures ∙ rw told) (c .head-length .ensures ∙ rw told)
 
 add-loop : tie.Need-add-loop Inv-loop μ-loop
 add-loop c = omega (arith, end-inside (c .loop .inv))
@@ -89,8 +87,8 @@ add-starts c =
     let turn = c .before .before .before .before .before .before .before .before .before in
     omega (arith, starts-fit (turn .before .loop .inv) (turn .loop-test .taken))
 
-add-at-2 : tie.Need-add-at-2 Inv-loop μ-loop
-add-at-2 c =
+add-at : tie.Need-add-at Inv-loop μ-loop
+add-at c =
     let turn = c .before .before .before .before .before .before .before .before .before in
     omega (arith, entry-inside (turn .before .loop .inv) (turn .loop-test .taken))
 
@@ -123,8 +121,7 @@ list-timetable-spec =
     tasks-in-requires
     cast-n
     read-set-requires
-    mul-at
-    add-at
+    head-length-requires
     loop-holds
     add-loop
     entry-at-requires
@@ -140,7 +137,7 @@ list-timetable-spec =
     add-jobs
     array-write-jobs
     add-starts
-    add-at-2
+    add-at
     loop-less
     loop-again
     put-ok-requires

@@ -3,7 +3,7 @@ use Prim.Native.Nat.{ℕ}
 use mathlib.Core.Path.{_∙_, ap}
 use lib.ListN.{replicate, length-replicate}
 use borrow.Author.Needs.{needs}
-use Rattle.rules.specs.Dispatcher.{Shaped}
+use Rattle.rules.specs.Dispatcher.{Shaped, number-count}
 use Rattle.rules.proofs.Arrays.{slots-counted}
 use Rattle.numbers.specs.Numbers.{state-from}
 use Rattle.numbers.proofs.StateNumbers.{state-of-numbers}
@@ -57,7 +57,7 @@ returns c =
     let at-next = at-now .before .before .before .before in
     let at-tasks = at-next .before .before .before .before in
     let start = at-tasks .before .before .before in
-    let is = all-stored (start .args .d) (shaped start) (replicate 119 0) _ _ _ _ (length-replicate {A = ℕ} 119 0)
+    let is = all-stored (start .args .d) (shaped start) (replicate number-count 0) _ _ _ _ (length-replicate {A = ℕ} number-count 0)
     (at-tasks .put-tasks .ensures) (at-next .put-numbers .ensures) (at-now .put-numbers2 .ensures) (c .put-numbers3 .ensures) in
     (is, ap state-from is ∙ state-of-numbers (start .args .d) (shaped start))
 

@@ -3,8 +3,8 @@ use mathlib.Core.Path.{_≡_, refl}
 use Prim.Native.Nat.{ℕ, _-_, _≤_}
 use native.Mathlib.Omega.{arith}
 use borrow.Author.Needs.{needs}
-use Rattle.records.specs.Tables.{Filled}
-use Rattle.records.proofs.Arrays.{filled-none, filled-more}
+use Rattle.sets.specs.Kept.{Filled}
+use Rattle.sets.proofs.Arrays.{filled-none, filled-more}
 use Rattle.records.proofs.fill.Statement.{statement}
 use Rattle.records.proofs.fill.Tie as tie
 

@@ -15,8 +15,8 @@ Inv-loop image n idles inversions offsets₀ filled₀ at₀ j₀ offsets filled
 abbrev μ-loop : tie.MeasureT-loop
 μ-loop image n idles inversions offsets₀ filled₀ at₀ j₀ offsets filled at j = inversions - j
 
-first-record-requires : tie.Need-first-record-requires Inv-loop μ-loop
-first-record-requires c κs = search needs
+head-length-requires : tie.Need-head-length-requires Inv-loop μ-loop
+head-length-requires c κs = search needs
 
 mul-at : tie.Need-mul-at Inv-loop μ-loop
 mul-at c = search needs
@@ -27,7 +27,7 @@ add-at c = search needs
 loop-holds : tie.Need-loop-holds Inv-loop μ-loop
 loop-holds c =
     let a = c .before .before .args in
-    told-none-yet (a .image .now) (a .n) (a .idles) (a .inversions) _ _ (omega (arith, c .first-record .ensures)) refl (slot-zeros 16)
+    told-none-yet (a .image .now) (a .n) (a .idles) (a .inversions) _ _ (omega (arith, c .head-length .ensures)) refl (slot-zeros 16)
 
 inversion-at-requires : tie.Need-inversion-at-requires Inv-loop μ-loop
 inversion-at-requires c κs = search needs
@@ -77,8 +77,8 @@ fill-requires-2 c κs =
     let at = c .before .before in
     (at .loop .inv .few-filled, (at .before .before .before .pre .few, at .loop .inv .slots))
 
-first-record-requires-2 : tie.Need-first-record-requires-2 Inv-loop μ-loop
-first-record-requires-2 c κs = search needs
+head-length-requires-2 : tie.Need-head-length-requires-2 Inv-loop μ-loop
+head-length-requires-2 c κs = search needs
 
 cast-t20 : tie.Need-cast-t20 Inv-loop μ-loop
 cast-t20 c = search needs
@@ -86,7 +86,7 @@ cast-t20 c = search needs
 returns : tie.Need-returns Inv-loop μ-loop
 returns c =
     let at = c .before .before .before .before in
-    λ ts e. told-all (at .loop .inv) (omega arith) (at .before .before .before .pre .few) _ (c .before .fill2 .ensures) ts e _ (c .first-record2 .ensures)
+    λ ts e. told-all (at .loop .inv) (omega arith) (at .before .before .before .pre .few) _ (c .before .fill2 .ensures) ts e _ (c .head-length2 .ensures)
 
 pub first-offsets-spec : {M : Type 1} → statement M
 first-offsets-spec =
@@ -94,7 +94,7 @@ first-offsets-spec =
     (tie.spec
     Inv-loop
     μ-loop
-    first-record-requires
+    head-length-requires
     mul-at
     add-at
     loop-holds
@@ -109,6 +109,6 @@ first-offsets-spec =
     loop-again
     cast-fill-2
     fill-requires-2
-    first-record-requires-2
+    head-length-requires-2
     cast-t20
     returns)

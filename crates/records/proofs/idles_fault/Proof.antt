@@ -1,37 +1,56 @@
 -- `records::idles_fault` meets its contract. The invariant: the first fault is that of the ID records from j on. Assumes nothing.
+use mathlib.Core.Path.{ap}
 use mathlib.Core.Logic.{⊎-elim}
-use Prim.Native.Nat.{_-_}
+use Prim.Native.Nat.{ℕ, _+_, _-_}
 use native.Mathlib.Omega.{arith}
 use borrow.Author.Needs.{needs}
+use Rattle.sets.specs.Kept.{tasks-in, hyperperiod-in}
 use Rattle.records.proofs.RecordsJudged.{IdlesFrom, idles-start, idles-end, idle-early, idle-out, idle-short, idles-on}
 use Rattle.records.proofs.idles_fault.Statement.{statement}
 use Rattle.records.proofs.idles_fault.Tie as tie
 
 abbrev Inv-idles : tie.InvT-idles
-Inv-idles image n h idles at₀ from₀ j₀ at from j = IdlesFrom image n h idles at from j
+Inv-idles image kept idles n h first at₀ from₀ j₀ at from j = IdlesFrom image (tasks-in kept) (hyperperiod-in kept) idles at from j
 
 abbrev μ-idles : tie.MeasureT-idles
-μ-idles image n h idles at₀ from₀ j₀ at from j = idles - j
+μ-idles image kept idles n h first at₀ from₀ j₀ at from j = idles - j
 
-first-record-requires : tie.Need-first-record-requires Inv-idles μ-idles
-first-record-requires c κs = search needs
+index-1-n : tie.Need-index-1-n Inv-idles μ-idles
+index-1-n c = search needs
+
+index-2-n : tie.Need-index-2-n Inv-idles μ-idles
+index-2-n c = search needs
+
+cast-n : tie.Need-cast-n Inv-idles μ-idles
+cast-n c = search needs
+
+index-1-h : tie.Need-index-1-h Inv-idles μ-idles
+index-1-h c = search needs
+
+index-2-h : tie.Need-index-2-h Inv-idles μ-idles
+index-2-h c = search needs
+
+head-count-requires : tie.Need-head-count-requires Inv-idles μ-idles
+head-count-requires c κs = omega (arith, c .before .before .before .pre .1 .keeps .few)
+
+head-length-requires : tie.Need-head-length-requires Inv-idles μ-idles
+head-length-requires c κs = omega (arith, c .before .before .before .before .pre .1 .keeps .few)
 
 idles-holds : tie.Need-idles-holds Inv-idles μ-idles
 idles-holds c =
-    let a = c .before .before .args in
-    idles-start (a .image .now) (a .n) (a .h) (a .idles) _ (c .first-record .ensures)
+    let a = c .before .before .before .before .before .args in
+    idles-start (a .image .now) _ _ (a .idles) _ (c .head-length .ensures)
 
 idle-at-requires : tie.Need-idle-at-requires Inv-idles μ-idles
-idle-at-requires c κs = search needs
+idle-at-requires c κs =
+    let at = c .before in
+    omega (arith, at .idles .inv .offset, at .before .before .before .before .before .before .pre .1 .stand)
 
 idle-keeps-requires : tie.Need-idle-keeps-requires Inv-idles μ-idles
 idle-keeps-requires c κs = search needs
 
-add-t14 : tie.Need-add-t14 Inv-idles μ-idles
-add-t14 c = search needs
-
-add-t15 : tie.Need-add-t15 Inv-idles μ-idles
-add-t15 c = search needs
+add-t25 : tie.Need-add-t25 Inv-idles μ-idles
+add-t25 c = search needs
 
 add-from : tie.Need-add-from Inv-idles μ-idles
 add-from c =
@@ -41,7 +60,7 @@ add-from c =
     let short =
     idle-short (read .before .before .idles .inv) (read .before .if1 .left) _ (read .idle-at .ensures) (late .if2 .left) _ (kept .idle-keeps .ensures)
     (c .before .if3 .left) in
-    omega arith
+    omega (arith, read .before .before .before .before .before .before .before .before .pre .1 .keeps .good .short)
 
 add-from-2 : tie.Need-add-from-2 Inv-idles μ-idles
 add-from-2 c =
@@ -51,7 +70,7 @@ add-from-2 c =
     let short =
     idle-short (read .before .before .idles .inv) (read .before .if1 .left) _ (read .idle-at .ensures) (late .if2 .left) _ (kept .idle-keeps .ensures)
     (c .before .if3 .left) in
-    omega arith
+    omega (arith, read .before .before .before .before .before .before .before .before .pre .1 .keeps .good .short)
 
 add-at : tie.Need-add-at Inv-idles μ-idles
 add-at c = search needs
@@ -77,9 +96,10 @@ returns-2 : tie.Need-returns-2 Inv-idles μ-idles
 returns-2 c =
     let read = c .before .before in
     let inv = read .before .before .idles .inv in
+    let place = ap (λ (first : ℕ). first + read .before .before .idles .j) (read .before .before .before .before .head-count .ensures) in
     ⊎-elim
-    (λ w. idle-early inv (read .before .if1 .left) _ (read .idle-at .ensures) (w .taken))
-    (λ w. idle-out inv (read .before .if1 .left) _ (read .idle-at .ensures) (w .0 .left) _ (w .1 .ensures) (w .2 .taken))
+    (λ w. idle-early inv (read .before .if1 .left) _ (read .idle-at .ensures) (w .taken) _ place)
+    (λ w. idle-out inv (read .before .if1 .left) _ (read .idle-at .ensures) (w .0 .left) _ (w .1 .ensures) (w .2 .taken) _ place)
     (c .if2 .came)
 
 pub idles-fault-spec : {M : Type 1} → statement M
@@ -88,12 +108,17 @@ idles-fault-spec =
     (tie.spec
     Inv-idles
     μ-idles
-    first-record-requires
+    index-1-n
+    index-2-n
+    cast-n
+    index-1-h
+    index-2-h
+    head-count-requires
+    head-length-requires
     idles-holds
     idle-at-requires
     idle-keeps-requires
-    add-t14
-    add-t15
+    add-t25
     add-from
     add-from-2
     add-at

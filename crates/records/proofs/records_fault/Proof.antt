@@ -1,11 +1,10 @@
 -- `records::records_fault` meets its contract: ID records come first. Assumes nothing.
-use native.Mathlib.Omega.{arith}
 use Rattle.records.proofs.RecordsJudged.{records-by-idle, records-by-inversion}
 use Rattle.records.proofs.records_fault.Statement.{statement}
 use Rattle.records.proofs.records_fault.Tie as tie
 
 idles-fault-requires : tie.Need-idles-fault-requires
-idles-fault-requires c κs = (c .before .pre .fits .few, omega (arith, c .before .pre .stand))
+idles-fault-requires c κs = (c .before .args .inversions, c .before .pre)
 
 returns : tie.Need-returns
 returns c =
@@ -13,14 +12,12 @@ returns c =
     let a = found .before .before .args in
     record {
       first = λ ts s.
-          records-by-idle (a .image .now) ts (a .h) (a .n) (a .idles) (a .inversions) (s .n-tasks) _ (found .idles-fault .ensures) (c .if1 .taken);
+          records-by-idle (a .image .now) ts _ _ (a .idles) (a .inversions) (s .n-tasks) _ (found .idles-fault .ensures) (c .if1 .taken);
       no-place = λ z. absurd (c .if1 .taken z);
     }
 
 inversions-fault-requires : tie.Need-inversions-fault-requires
-inversions-fault-requires c κs =
-    let start = c .before .before .before .before in
-    (start .args .h, start .pre)
+inversions-fault-requires c κs = c .before .before .before .before .pre
 
 returns-2 : tie.Need-returns-2
 returns-2 c =
@@ -30,8 +27,8 @@ returns-2 c =
     let told = c .inversions-fault .ensures in
     record {
       first = λ ts s.
-          records-by-inversion (a .image .now) ts (a .h) (a .n) (a .idles) (a .inversions) (s .n-tasks) _ _ (found .idles-fault .ensures) (passed .if1 .left)
-          (told .first ts (a .h) s);
+          records-by-inversion (a .image .now) ts _ _ (a .idles) (a .inversions) (s .n-tasks) _ _ (found .idles-fault .ensures) (passed .if1 .left)
+          (told .first ts s);
       no-place = told .no-place;
     }
 

@@ -10,14 +10,11 @@ slice-aggregate-starts : tie.Need-slice-aggregate-starts
 slice-aggregate-starts c = search needs
 
 starts-requires : tie.Need-starts-requires
-starts-requires c κs =
-    let start = c .before .before .before .before in
-    (start .pre .0 .0, one-may-run _ _ _ _ _ (start .pre .0 .1) (start .pre .1))
+starts-requires c κs = let given = c .before .before .before .pre in (given .0, one-may-run _ (given .1))
 
 returns : tie.Need-returns
-returns c =
-    let start = c .before .before .before .before .before .before in
-    λ ts fits. ap (λ (r : Run). r .last) (c .before .starts .ensures ts (one-may-run _ _ _ _ _ fits (start .pre .1)) .told) ∙ one-answer ts _ _ _ _
+returns c = λ ts fits.
+    ap (λ (r : Run). r .last) (c .before .starts .ensures ts (one-may-run _ fits) .told) ∙ one-answer ts _ _
 
 pub one-start-spec : {M : Type 1} → statement M
 one-start-spec = tie.close (tie.spec slice-aggregate-starts starts-requires returns)

@@ -1,6 +1,5 @@
 -- `tables::judge` meets its contract: by framing, by the set or by the records. Assumes nothing.
 use mathlib.Core.Path.{_≡_, sym, _∙_}
-use borrow.Author.Needs.{needs}
 use Rattle.fields.specs.Number.{Bytes}
 use Rattle.fields.proofs.Laws.{bytes-by-index}
 use Rattle.rules.specs.Refusals.{gives}
@@ -8,6 +7,7 @@ use Rattle.rules.specs.Framing.{frame}
 use Rattle.framing.proofs.Promises.{framed-is}
 use Rattle.framing.proofs.RoomLaws.{framed-room}
 use Rattle.tables.proofs.ImagesJudged.{judged-by-framing, judged-by-set}
+use borrow.Author.Needs.{needs}
 use Rattle.tables.proofs.judge.Statement.{statement}
 use Rattle.tables.proofs.judge.Tie as tie
 
@@ -46,30 +46,29 @@ refused-requires-2 c κs = search needs
 enum-known-f : tie.Need-enum-known-f
 enum-known-f c = search needs
 
+keep-requires : tie.Need-keep-requires
+keep-requires c κs = search needs
+
 judge-records-requires : tie.Need-judge-records-requires
 judge-records-requires c κs =
-    let judged = c .before .before .before in
     record {
-      framed = framed (judged .before .before .before);
-      set-is = judged .before .read-set .ensures;
-      good = sym (c .before .f .given .1) ∙ judged .judge-set .ensures;
+      framed = framed (c .before .before .before .before .before .before .before .before);
+      set-is = c .before .before .before .before .before .before .read-set .ensures;
+      figures = _;
+      good = sym (c .before .before .before .f .given .1) ∙ c .before .before .before .before .before .judge-set .ensures;
+      kept-is = c .before .keep .ensures;
     }
 
 returns : tie.Need-returns
-returns c =
-    let told = c .before .before in
-    judged-by-framing _ _ _ (told .before .before .frame .ensures) _ (told .refusal .given .1) (c .refused .ensures)
+returns c = judged-by-framing _ _ _ (c .before .before .before .before .frame .ensures) _ (c .before .before .refusal .given .1) (c .refused .ensures)
 
 returns-2 : tie.Need-returns-2
 returns-2 c =
-    let told = c .before .before in
-    let judged = told .before .before in
-    let read = judged .before .before .before in
-    judged-by-set _ (bytes (read .before .before .before)) (framed read) (judged .before .read-set .ensures) _ _
-    (sym (told .refusal2 .given .1) ∙ judged .judge-set .ensures) (c .refused2 .ensures)
+    judged-by-set _ (bytes (c .before .before .before .before .before .before .before .before .before .before)) (framed (c .before .before .before .before .before .before .before)) (c .before .before .before .before .before .read-set .ensures) _ _
+    (sym (c .before .before .refusal2 .given .1) ∙ c .before .before .before .before .judge-set .ensures) (c .refused2 .ensures)
 
 returns-3 : tie.Need-returns-3
-returns-3 c = search needs
+returns-3 c = c .judge-records .ensures
 
 pub judge-spec : {M : Type 1} → statement M
 judge-spec =
@@ -84,6 +83,7 @@ judge-spec =
     enum-known-refusal-2
     refused-requires-2
     enum-known-f
+    keep-requires
     judge-records-requires
     returns
     returns-2

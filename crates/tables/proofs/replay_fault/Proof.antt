@@ -17,14 +17,23 @@ bytes c = bytes-by-index (c .before .args .image .now) (λ i. c .shared-slice-kn
 slots : (c : tie.After-shared-slice-known) → length (c .before .args .s .tasks) ≡ 16
 slots c = search (needs, slots-counted)
 
-cast-n : tie.Need-cast-n
-cast-n c = search needs
+index-1-head-count : tie.Need-index-1-head-count
+index-1-head-count c = search needs
+
+index-2-head-count : tie.Need-index-2-head-count
+index-2-head-count c = search needs
+
+cast-head-count : tie.Need-cast-head-count
+cast-head-count c = search needs
+
+head-count-requires : tie.Need-head-count-requires
+head-count-requires c κs = search needs
 
 slice-aggregate-cycle : tie.Need-slice-aggregate-cycle
 slice-aggregate-cycle c = search needs
 
 cycle-requires : tie.Need-cycle-requires
-cycle-requires c κs = let given = c .before .before .before .pre in (given .0 .can, given .1)
+cycle-requires c κs = c .before .before .before .before .pre .can
 
 enum-told : tie.Need-enum-told
 enum-told c = search needs
@@ -34,30 +43,32 @@ enum-known-last c = search needs
 
 unused-requires : tie.Need-unused-requires
 unused-requires c κs =
-    let ended = c .before .before .before .before in
-    let known = ended .before .before .before in
-    rw (ended .cycle .ensures .told)
-    (replay-at-ends (bytes known) (slots known) (known .before .pre .0) _ (rw (ended .cycle .ensures .told) at (c .before .last .given .1)))
+    let counted = c .before .before .before .before .before .before in
+    let known = counted .before .before in
+    rw (counted .head-count .ensures, c .before .before .before .before .cycle .ensures .told)
+    (replay-at-ends (bytes known) (slots known) (known .before .pre) _ (rw (c .before .before .before .before .cycle .ensures .told) at (c .before .last .given .1)))
 
 returns : tie.Need-returns
 returns c =
-    let ended = c .before .before .before in
-    let known = ended .before .before .before in
-    rw (ended .cycle .ensures .told)
-    (replay-at-late (bytes known) (slots known) (known .before .pre .0) _ (rw (ended .cycle .ensures .told) at (c .enum-told .given .1)))
+    let known = c .before .before .before .before .before .before .before in
+    rw (c .before .before .before .cycle .ensures .told)
+    (replay-at-late (bytes known) (slots known) (known .before .pre) _ (rw (c .before .before .before .cycle .ensures .told) at (c .enum-told .given .1)))
 
 returns-2 : tie.Need-returns-2
 returns-2 c =
-    let ended = c .before .before .before .before .before in
-    let known = ended .before .before .before in
-    rw (c .unused .ensures, ended .cycle .ensures .told)
-    (replay-at-done (bytes known) (slots known) (known .before .pre .0) _ (rw (ended .cycle .ensures .told) at (c .before .before .last .given .1)))
+    let counted = c .before .before .before .before .before .before .before in
+    let known = counted .before .before in
+    rw (c .unused .ensures, counted .head-count .ensures, c .before .before .before .before .before .cycle .ensures .told)
+    (replay-at-done (bytes known) (slots known) (known .before .pre) _ (rw (c .before .before .before .before .before .cycle .ensures .told) at (c .before .before .last .given .1)))
 
 pub replay-fault-spec : {M : Type 1} → statement M
 replay-fault-spec =
     tie.close
     (tie.spec
-    cast-n
+    index-1-head-count
+    index-2-head-count
+    cast-head-count
+    head-count-requires
     slice-aggregate-cycle
     cycle-requires
     enum-told

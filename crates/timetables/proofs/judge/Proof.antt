@@ -71,18 +71,13 @@ walk-entries-requires c κs =
 
 add-index : tie.Need-add-index
 add-index c =
-    let q = behind (c .before .before .before .before .before .before .before .before) in
-    omega (arith, q .1 .few)
-
-add-index-2 : tie.Need-add-index-2
-add-index-2 c =
     let walked = c .before .before in
     let judged = walked .before .before .before .before in
     let told = judged .before .before .before in
     let q = behind told in
     let few = few-entries _ (bytes (told .before .before .before)) _ (q .0) (q .1) _ (judged .before .read-set .ensures) _ _
     (sym (walked .before .before .f .given .1) ∙ judged .judge-set .ensures) _ (walked .walk-entries .ensures) in
-    omega (arith, few, q .1 .few)
+    omega (arith, few, q .1 .index)
 
 element-copy-out-rank : tie.Need-element-copy-out-rank
 element-copy-out-rank c = search needs
@@ -191,7 +186,6 @@ judge-spec =
     enum-known-f
     walk-entries-requires
     add-index
-    add-index-2
     element-copy-out-rank
     frame-from-requires-2
     enum-known-refusal-3

@@ -56,14 +56,14 @@ cast-n c = search needs
 first-releases-requires : tie.Need-first-releases-requires Inv-entries μ-entries
 first-releases-requires c κs = search needs
 
-first-entry-requires : tie.Need-first-entry-requires Inv-entries μ-entries
-first-entry-requires c κs = search needs
+head-length-requires : tie.Need-head-length-requires Inv-entries μ-entries
+head-length-requires c κs = search needs
 
 entries-holds : tie.Need-entries-holds Inv-entries μ-entries
 entries-holds c =
     let start = c .before .before .before in
     let slots : length (start .args .t2 .tasks) ≡ 16 = search (needs, slots-counted) in
-    walking-first (start .pre) slots (c .before .first-releases .ensures) (c .first-entry .ensures)
+    walking-first (start .pre) slots (c .before .first-releases .ensures) (c .head-length .ensures)
 
 stands-requires : tie.Need-stands-requires Inv-entries μ-entries
 stands-requires c κs = walking-inside (c .entries .inv)
@@ -150,14 +150,8 @@ array-write-release c = omega (arith, in-slots (c .before .before .before .befor
 add-free : tie.Need-add-free Inv-entries μ-entries
 add-free c = omega (arith, good-turn (c .before .before .before .before) .end-fits)
 
-element-copy-out-at : tie.Need-element-copy-out-at Inv-entries μ-entries
-element-copy-out-at c = search needs
-
 add-at : tie.Need-add-at Inv-entries μ-entries
-add-at c = search needs
-
-add-at-2 : tie.Need-add-at-2 Inv-entries μ-entries
-add-at-2 c =
+add-at c =
     let read = c .before .before .before .before .before .before .before .before .before .before in
     omega (arith, entry-inside (read .before .before .before .entries .inv) (stands-here (read .before)))
 
@@ -230,7 +224,7 @@ walk-entries-spec =
     μ-entries
     cast-n
     first-releases-requires
-    first-entry-requires
+    head-length-requires
     entries-holds
     stands-requires
     missing-requires
@@ -254,9 +248,7 @@ walk-entries-spec =
     add-release
     array-write-release
     add-free
-    element-copy-out-at
     add-at
-    add-at-2
     add-j
     entries-less
     entries-again

@@ -7,11 +7,12 @@ use native.Mathlib.Numerals.{add-one}
 use lib.ListN.{length, getD, take}
 use lib.Seq.{length-take-le}
 use borrow.Author.Needs.{needs}
-use Rattle.rules.specs.Marks.{TS, TK, size}
+use Rattle.rules.specs.Marks.{TS, TK, size, head-length-of}
 use Rattle.rules.specs.Image.{record-of, of-task}
 use Rattle.rules.specs.Dispatcher.{zero-task}
+use Rattle.rules.specs.Tasks.{memory-set}
 use Rattle.rules.proofs.Arrays.{slots-counted}
-use Rattle.writing.specs.Writing.{put-at, record-put, behind-tasks}
+use Rattle.writing.specs.Writing.{put-at, record-put}
 use Rattle.writing.proofs.Puts.{put-none, put-length}
 use Rattle.writing.proofs.ImagePut.{tasks-bytes, task-put, set-put}
 use Rattle.writing.proofs.put_set.Statement.{statement}
@@ -19,7 +20,7 @@ use Rattle.writing.proofs.put_set.Tie as tie
 
 abbrev Inv-loop : tie.InvT-loop
 Inv-loop out₀ kind s n at₀ i₀ out at i =
-    (i ≤ n) × (at ≡ behind-tasks i) × (out ≡ put-at out₀ (size TS) (tasks-bytes (take i (s .tasks)))) × (length (s .tasks) ≡ 16)
+    (i ≤ n) × (at ≡ head-length-of i) × (out ≡ put-at out₀ (size TS) (tasks-bytes (take i (s .tasks)))) × (length (s .tasks) ≡ 16)
 
 abbrev μ-loop : tie.MeasureT-loop
 μ-loop out₀ kind s n at₀ i₀ out at i = n - i
@@ -73,6 +74,7 @@ same-length c =
     ap length (c .before .loop .inv .2) ∙ put-length _ (size TS) _ ∙ c .before .before .before .before .put-head .kept .0
 
 returns : tie.Need-returns Inv-loop μ-loop
+unfolding memory-set
 returns c =
     let at = c .before in
     let head = at .before .before .before in
@@ -82,7 +84,7 @@ returns c =
     let many = length-take-le (set .n) (set .tasks) (omega arith) in
     at .loop .inv .2
     ∙ ap₂ (λ (o : List ℕ) (k : ℕ). put-at o (size TS) (tasks-bytes (take k (set .tasks)))) (head .put-head .ensures) all
-    ∙ set-put (start .args .out .now) (start .args .kind) (set .n) (take (set .n) (set .tasks)) many (omega arith)
+    ∙ set-put (start .args .out .now) (start .args .kind) (set .n) (memory-set set) many (omega arith)
 
 pub put-set-spec : {M : Type 1} → statement M
 put-set-spec =
