@@ -22,9 +22,10 @@ use Rattle.decision.specs.declared.NextStart.{NextStart as Answer}
 use Rattle.decision.specs.declared.NextStart.the-variants.{Stuck}
 use Rattle.decision.specs.declared.Idled.{Idled}
 use Rattle.sets.specs.Kept.{Rows, tasks-in, hyperperiod-in, Keeps}
-use Rattle.decision.specs.Fits.{free-in, idle-offset-in, next-in, releases-in, offsets-in, Fits}
+use Rattle.sets.specs.Scans.{least-of}
+use Rattle.decision.specs.declared.Front.{Front}
+use Rattle.decision.specs.Fits.{next-in, releases-in, offsets-in, Fits}
 use Rattle.decision.specs.Shown.{idle-case}
-use Rattle.decision.specs.Waiting.{least-of}
 use Rattle.decision.specs.Next.{IdlesRead, none-left, one-more, next-case, next-from, next-at, StartsAt, Idling, IdledTo}
 use Rattle.decision.proofs.WholeRecords.{idle-unread, idle-after}
 use Rattle.decision.proofs.Fitting.{is-hyperperiod, least-by-end, least-as}
@@ -124,11 +125,11 @@ module _ (ts : Set) (bytes : List ℕ) (at : Rows) (f o : ℕ) where
           ∙ ap (λ (w : ℕ). next-start (setting ts) (lent bytes ts) (standing x (t + r .length) offsets w)) past)
 
 -- a task's offset cannot be read, as the answer whether all can be tells
-pub tasks-told-unread : (bytes : List ℕ) {kept at : Rows} {all-there : Bool} →
+pub tasks-told-unread : (bytes : List ℕ) {kept at : Rows} (front : Front) {all-there : Bool} →
     ((ts : Set) → Keeps ts kept → all-there ≡ tasks-readable (lent bytes ts) (tasks-in kept) (offsets-in at)) → all-there ≡ false →
-    (ts : Set) → Fits ts kept at → Stuck 25 ≡ next-at ts bytes at
-tasks-told-unread bytes {at = at} told e ts fits =
-    tasks-unread ts bytes at (free-in at) (idle-offset-in at) (rw (fits .set .n-tasks) at (sym (told ts (fits .set)) ∙ e))
+    (ts : Set) → Fits ts kept at → Stuck 25 ≡ next-at ts bytes at front
+tasks-told-unread bytes {at = at} front told e ts fits =
+    tasks-unread ts bytes at (front .free) (front .idle) (rw (fits .set .n-tasks) at (sym (told ts (fits .set)) ∙ e))
 
 -- an ID offset from which all idle records can be read can be read itself
 idle-can-be-read : {S : Source} {o : ℕ} → IdlesRead S o → readable (S .idle-shown o) ≡ true
@@ -145,19 +146,19 @@ read-behind {after = after} {r = r} (one-more {after = w} {r = q} e rest) shown 
 
 -- from an instant and an ID offset on, the next start is the one that was asked for, whatever fits; and where the image's records were judged, some
 -- set that fits has all idle records read from there
-pub record Decides (bytes : List ℕ) (judged : Bool) (kept at : Rows) (from o : ℕ) : Type 0 where
+pub record Decides (bytes : List ℕ) (judged : Bool) (kept at : Rows) (front : Front) (from o : ℕ) : Type 0 where
   pub by-end : from ≤ hyperperiod-in kept
   pub same : (ts : Set) → Idling ts bytes kept at →
       next-start (setting ts) (lent bytes ts) (standing (next-in at) from (offsets-in at) o)
-      ≡ next-start (setting ts) (lent bytes ts) (standing (next-in at) (free-in at) (offsets-in at) (idle-offset-in at))
+      ≡ next-start (setting ts) (lent bytes ts) (standing (next-in at) (front .free) (offsets-in at) (front .idle))
   pub idles-read : judged ≡ true → (ts : Set) × Keeps ts kept × IdlesRead (lent bytes ts) o
 
 -- where they were judged, the ID offset can be read
-pub judged-readable : {bytes : List ℕ} {judged : Bool} {kept at : Rows} {from o : ℕ} →
-    Decides bytes judged kept at from o → judged ≡ true → (ts : Set) × Keeps ts kept × (readable (lent bytes ts .idle-shown o) ≡ true)
+pub judged-readable : {bytes : List ℕ} {judged : Bool} {kept at : Rows} {front : Front} {from o : ℕ} →
+    Decides bytes judged kept at front from o → judged ≡ true → (ts : Set) × Keeps ts kept × (readable (lent bytes ts .idle-shown o) ≡ true)
 judged-readable d e = let read = d .idles-read e in (read .0, read .1, idle-can-be-read (read .2))
 
-module _ {bytes : List ℕ} {judged : Bool} {kept at : Rows} {from o : ℕ} (d : Decides bytes judged kept at from o) {t first : ℕ}
+module _ {bytes : List ℕ} {judged : Bool} {kept at : Rows} {front : Front} {from o : ℕ} (d : Decides bytes judged kept at front from o) {t first : ℕ}
     (is-instant : t ≡ max from first) (is-first : first ≡ least-of (tasks-in kept) (hyperperiod-in kept) (releases-in at)) {answer : IdleShown}
     (shown : (ts : Set) → Keeps ts kept → answer ≡ idle-case (lent bytes ts .idle-shown o)) (ts : Set) (i : Idling ts bytes kept at) where
   -- the instant, by the least of releases
@@ -165,27 +166,27 @@ module _ {bytes : List ℕ} {judged : Bool} {kept at : Rows} {from o : ℕ} (d :
   by-least = is-instant ∙ ap (max from) is-first
 
   -- what is decided here is the answer
-  decided-here : next-from ts bytes at from o ≡ next-at ts bytes at
+  decided-here : next-from ts bytes at from o ≡ next-at ts bytes at front
   decided-here = ap (next-case ts bytes (next-in at) (offsets-in at)) (d .same ts i)
 
   -- the ID offset cannot be read
-  pub idled-unread : answer ≡ Unreadable → IdledTo ts bytes kept at (record { readable = false; start = t; idle = o })
+  pub idled-unread : answer ≡ Unreadable → IdledTo ts bytes kept at front (record { readable = false; start = t; idle = o })
   idled-unread e = record {
     unread = λ z. idle-unreadable ts bytes at from o (sym e ∙ shown ts (i .fits .set)) ∙ decided-here;
     read = λ z. differ (sym z);
   }
 
   -- the start is decided here
-  idled-here : StartsAt ts bytes kept at from o t → IdledTo ts bytes kept at (record { readable = true; start = t; idle = o })
+  idled-here : StartsAt ts bytes kept at from o t → IdledTo ts bytes kept at front (record { readable = true; start = t; idle = o })
   idled-here s = record { unread = λ z. differ z; read = λ z. (from, s, decided-here) }
 
   -- the offset shows no idle record
-  pub idled-none : answer ≡ NoRecord → IdledTo ts bytes kept at (record { readable = true; start = t; idle = o })
+  pub idled-none : answer ≡ NoRecord → IdledTo ts bytes kept at front (record { readable = true; start = t; idle = o })
   idled-none e = idled-here (no-idle-left ts bytes at from o i (d .by-end) t by-least (sym e ∙ shown ts (i .fits .set)))
 
   module _ {r : Idle} (shows-it : answer ≡ Shows r) where
     -- it shows one for another instant
-    pub idled-other : (r .start ≡ t → ⊥) → IdledTo ts bytes kept at (record { readable = true; start = t; idle = o })
+    pub idled-other : (r .start ≡ t → ⊥) → IdledTo ts bytes kept at front (record { readable = true; start = t; idle = o })
     idled-other other =
         idled-here (idle-other ts bytes at from o i (d .by-end) t by-least r (sym shows-it ∙ shown ts (i .fits .set)) other)
 
@@ -203,21 +204,21 @@ module _ {bytes : List ℕ} {judged : Bool} {kept at : Rows} {from o : ℕ} (d :
       -- and it is used
       used-again : {len : ℕ} → len ≡ size ID →
           next-start (setting ts) (lent bytes ts) (standing (next-in at) (t + r .length) (offsets-in at) (o + len))
-          ≡ next-start (setting ts) (lent bytes ts) (standing (next-in at) (free-in at) (offsets-in at) (idle-offset-in at))
+          ≡ next-start (setting ts) (lent bytes ts) (standing (next-in at) (front .free) (offsets-in at) (front .idle))
       used-again is-length =
           rw is-length
           (sym (idle-used ts bytes at from o i (d .by-end) t by-least r (sym shows-it ∙ shown ts (i .fits .set)) now) ∙ d .same ts i)
 
 -- where idling has ended the answer is that of what starts there
-pub starts-there : {ts : Set} {bytes : List ℕ} {kept at : Rows} {d : Idled} → IdledTo ts bytes kept at d → d .readable ≡ true → {r : Answer} →
-    ((f : ℕ) → StartsAt ts bytes kept at f (d .idle) (d .start) → r ≡ next-from ts bytes at f (d .idle)) → r ≡ next-at ts bytes at
+pub starts-there : {ts : Set} {bytes : List ℕ} {kept at : Rows} {front : Front} {d : Idled} → IdledTo ts bytes kept at front d → d .readable ≡ true → {r : Answer} →
+    ((f : ℕ) → StartsAt ts bytes kept at f (d .idle) (d .start) → r ≡ next-from ts bytes at f (d .idle)) → r ≡ next-at ts bytes at front
 starts-there to readable told = let here = to .read readable in told (here .0) (here .1) ∙ here .2
 
 -- an idle record that is used leads on, as some set fits
-pub decides-again : {bytes : List ℕ} {judged : Bool} {kept at : Rows} {from o : ℕ} (d : Decides bytes judged kept at from o) {t first : ℕ}
+pub decides-again : {bytes : List ℕ} {judged : Bool} {kept at : Rows} {front : Front} {from o : ℕ} (d : Decides bytes judged kept at front from o) {t first : ℕ}
     (is-instant : t ≡ max from first) (is-first : first ≡ least-of (tasks-in kept) (hyperperiod-in kept) (releases-in at)) {answer : IdleShown}
     (shown : (ts : Set) → Keeps ts kept → answer ≡ idle-case (lent bytes ts .idle-shown o)) (ts : Set) → Idling ts bytes kept at →
-    {r : Idle} → answer ≡ Shows r → r .start ≡ t → {len : ℕ} → len ≡ size ID → Decides bytes judged kept at (t + r .length) (o + len)
+    {r : Idle} → answer ≡ Shows r → r .start ≡ t → {len : ℕ} → len ≡ size ID → Decides bytes judged kept at front (t + r .length) (o + len)
 decides-again {bytes} {o = o} d is-instant is-first shown ts i {r} shows-it now is-length = record {
   by-end = omega (arith, used-fits d is-instant is-first shown ts i shows-it now .1);
   same = λ us j. used-again d is-instant is-first shown us j shows-it now is-length;

@@ -16,11 +16,12 @@ use Rattle.rules.specs.Priority.{slot, is-left, waiting, least-release}
 use Rattle.rules.specs.Judging.{inversion-in-range}
 use Rattle.rules.proofs.Cases.{by-bool, by-le, both-true}
 use Rattle.rules.proofs.PriorityLaws.{due-in-cycle}
-use Rattle.rules.proofs.GoodSets.{set-good}
 use Rattle.rules.proofs.Inversions.{next-waits}
+use Rattle.sets.proofs.SetKept.{kept-cycle}
 use Rattle.sets.specs.Kept.{Rows, tasks-in, hyperperiod-in, Keeps}
+use Rattle.sets.specs.Scans.{least-of}
 use Rattle.decision.specs.Fits.{next-in, releases-in, Fits}
-use Rattle.decision.specs.Waiting.{least-of, come-by}
+use Rattle.decision.specs.Waiting.{come-by}
 
 -- the least release is at or before the end of the cycle
 pub least-by-end : (h : ℕ) (ts : List Task) (x : List ℕ) → least-release h ts x ≤ h
@@ -39,10 +40,6 @@ least-left h (t ∷ ts) x releases left past =
     by-bool (ltb (head₀ x) (jobs h t)) (λ b. rw (b, least-release) (omega (arith, left 0 (omega arith) (ltb-true _ _ b))))
     (λ b. rw (b, least-release) (omega (arith, past 0 (omega arith) (ltb-false _ _ b), least-by-end h ts (tail₀ x))))
 
--- the hyperperiod that is given is the one worked out
-pub set-hyperperiod : {ts : Set} {kept : Rows} → Keeps ts kept → hyperperiod-in kept ≡ hyperperiod ts
-set-hyperperiod {ts} {kept} keeps = set-good ts (hyperperiod-in kept) (keeps .good) .1
-
 module _ {ts : Set} {kept at : Rows} (fits : Fits ts kept at) where
   -- the number of tasks and the hyperperiod, next job numbers and their releases
   abbrev n : ℕ
@@ -59,7 +56,7 @@ module _ {ts : Set} {kept at : Rows} (fits : Fits ts kept at) where
 
   -- and so it is with what has started
   pub is-hyperperiod : h ≡ hyperperiod ts
-  is-hyperperiod = set-hyperperiod (fits .set)
+  is-hyperperiod = kept-cycle (fits .set)
 
   -- a task is one of the set's
   pub a-task : {i : ℕ} → i < n → i < length (ts .tasks)

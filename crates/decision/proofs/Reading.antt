@@ -23,7 +23,7 @@ use Rattle.sets.specs.Kept.{Rows, tasks-in, jobs-in, Keeps}
 use Rattle.records.proofs.OwnRules.{task-out, job-out, delay-tested}
 use Rattle.decision.specs.Shown.{inversion-case}
 use Rattle.decision.proofs.WholeRecords.{inversion-unread}
-use Rattle.decision.proofs.Fitting.{set-hyperperiod}
+use Rattle.sets.proofs.SetKept.{kept-cycle}
 
 -- offsets that can be read one by one can be read all together
 pub tasks-read-all : (S : Source) (m : ℕ) (offsets : List ℕ) → ((i : ℕ) → i < m → readable (S .inversion-shown (slot offsets i)) ≡ true) →
@@ -44,7 +44,7 @@ module _ {ts us : Set} {kept : Rows} (fits : Keeps ts kept) (other : Keeps us ke
   -- a PV is in its own range for both or for neither
   same-range : (r : Inversion) → inversion-in-range ts (hyperperiod ts) r ≡ inversion-in-range us (hyperperiod us) r
   same-range r =
-      rw (← set-hyperperiod fits, ← set-hyperperiod other)
+      rw (← kept-cycle fits, ← kept-cycle other)
       (by-le (tasks-in kept) (r .task) (λ past. sym (task-out fits r past) ∙ task-out other r past)
       (λ a-task. by-le (getD (jobs-in kept) (r .task) 0) (r .job) (λ past. sym (job-out fits r a-task past) ∙ job-out other r a-task past)
       (λ before. sym (delay-tested fits r a-task before) ∙ delay-tested other r a-task before)))
@@ -82,7 +82,7 @@ same-idle-readable {ts} {us} fits other bytes o can =
     by-mark SL v = refl
     by-mark ID v =
         ap (λ (k : ℕ). readable (shown-if (idle-in-range k (to-idle v)) (shows (to-idle v) (o + size ID))))
-        (sym (set-hyperperiod fits) ∙ set-hyperperiod other)
+        (sym (kept-cycle fits) ∙ kept-cycle other)
     by-mark PV v = ap (λ (b : Bool). readable {A = Idle} (shown-if b no-record)) (same-range fits other (to-inversion v))
     by-mark EN v = refl
 

@@ -1,26 +1,14 @@
--- Slots in turn: the least of numbers and the mask of the tasks whose release has come, with one slot more. Assumes nothing.
-use mathlib.Core.Path.{_≡_, _∙_, ap}
+-- Slots in turn: the mask of the tasks whose release has come, with one slot more. Assumes nothing.
+use mathlib.Core.Path.{_≡_}
 use mathlib.Core.List.{List}
-use Prim.Native.Nat.{ℕ, zero, suc, _+_, _*_, _-_, min, _≤_, _<_}
-use native.Mathlib.Numerals.{add-one}
+use Prim.Native.Nat.{ℕ, suc, _*_, _-_, _≤_, _<_}
 use native.Mathlib.Omega.{arith}
 use lib.ListN.{getD}
 use borrow.Author.Tests.{le-leb, lt-leb}
-use Rattle.fields.specs.Body.{tail₀}
 use Rattle.rules.specs.Priority.{slot}
 use Rattle.rules.proofs.Arrays.{slot-element}
-use Rattle.decision.specs.Waiting.{least-of, mask-from, come-by, set-bit}
+use Rattle.decision.specs.Waiting.{mask-from, come-by, set-bit}
 use Rattle.decision.proofs.Masks.{mask-set, mask-kept}
-
--- the least of one number more
-pub least-more : (m bound : ℕ) (numbers : List ℕ) → least-of (m + 1) bound numbers ≡ min (least-of m bound numbers) (getD numbers m 0)
-least-more m bound numbers =
-    ap (λ (k : ℕ). least-of k bound numbers) (add-one m) ∙ least-suc m numbers ∙ ap (min (least-of m bound numbers)) (slot-element numbers m)
-  where
-    -- with its slot
-    least-suc : (k : ℕ) (us : List ℕ) → least-of (suc k) bound us ≡ min (least-of k bound us) (slot us k)
-    least-suc zero us = omega arith
-    least-suc (suc k) us = omega (arith, least-suc k (tail₀ us))
 
 -- the mask of the tasks from i on whose release has come, by that of the tasks from k on, the ones behind task i
 module _ (n t : ℕ) (releases : List ℕ) (k i mask : ℕ) (next : k ≡ suc i) (l : i < n) (before : mask ≡ mask-from (n - k) k (come-by releases t)) where

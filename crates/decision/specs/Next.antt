@@ -17,7 +17,8 @@ use Rattle.rules.specs.Offsets.{no-record, shows, Source, standing, NextStart, 
 use Rattle.decision.specs.declared.NextStart.{NextStart as Answer}
 use Rattle.decision.specs.declared.NextStart.the-variants.{Starts, Stuck}
 use Rattle.sets.specs.Kept.{Rows, tasks-in, hyperperiod-in}
-use Rattle.decision.specs.Fits.{free-in, idle-offset-in, next-in, releases-in, offsets-in, Fits}
+use Rattle.decision.specs.declared.Front.{Front}
+use Rattle.decision.specs.Fits.{next-in, releases-in, offsets-in, Fits, Stands}
 use Rattle.decision.specs.declared.Chosen.{Chosen}
 use Rattle.decision.specs.declared.Idled.{Idled}
 use Rattle.decision.specs.Waiting.{mask-of, come-by}
@@ -51,13 +52,13 @@ next-of ts bytes x f offsets o = next-case ts bytes x offsets (next-start (setti
 abbrev pub next-from : Set → List ℕ → Rows → ℕ → ℕ → Answer
 next-from ts bytes at f o = next-of ts bytes (next-in at) f (offsets-in at) o
 
--- from its own
-abbrev pub next-at : Set → List ℕ → Rows → Answer
-next-at ts bytes at = next-from ts bytes at (free-in at) (idle-offset-in at)
+-- from where replay has come to
+abbrev pub next-at : Set → List ℕ → Rows → Front → Answer
+next-at ts bytes at front = next-from ts bytes at (front .free) (front .idle)
 
 -- an answer that is the rule book's next start of every set that the rows fit
-abbrev pub FindsNext : List ℕ → Rows → Rows → Answer → Type 0
-FindsNext bytes kept at r = (ts : Set) → Fits ts kept at → r ≡ next-at ts bytes at
+abbrev pub FindsNext : List ℕ → Rows → Rows → Front → Answer → Type 0
+FindsNext bytes kept at front r = (ts : Set) → Stands ts kept at front → r ≡ next-at ts bytes at front
 
 -- from an offset on the source shows idle records, one behind the other, and then none
 pub data IdlesRead (S : Source) : ℕ → Type 0 where
@@ -69,9 +70,9 @@ abbrev pub TasksRead : List ℕ → Set → Rows → Rows → Type 0
 TasksRead bytes ts kept at = tasks-readable (lent bytes ts) (tasks-in kept) (offsets-in at) ≡ true
 
 -- all offsets can be read, and the ID offset behind every idle record as well
-pub record AllRead (bytes : List ℕ) (ts : Set) (kept at : Rows) : Type 0 where
+pub record AllRead (bytes : List ℕ) (ts : Set) (kept at : Rows) (idle : ℕ) : Type 0 where
   pub tasks-read : TasksRead bytes ts kept at
-  pub idles-read : IdlesRead (lent bytes ts) (idle-offset-in at)
+  pub idles-read : IdlesRead (lent bytes ts) idle
 
 -- an offset, or the one past the PV record there
 abbrev pub past-if : Bool → ℕ → ℕ
@@ -121,7 +122,7 @@ pub record Idling (ts : Set) (bytes : List ℕ) (kept at : Rows) : Type 0 where
   pub tasks-read : TasksRead bytes ts kept at
 
 -- where idling ends: the ID offset there cannot be read, or the start is decided there and uses no idle record
-pub record IdledTo (ts : Set) (bytes : List ℕ) (kept at : Rows) (d : Idled) : Type 0 where
-  pub unread : d .readable ≡ false → Stuck 25 ≡ next-at ts bytes at
+pub record IdledTo (ts : Set) (bytes : List ℕ) (kept at : Rows) (front : Front) (d : Idled) : Type 0 where
+  pub unread : d .readable ≡ false → Stuck 25 ≡ next-at ts bytes at front
   pub read : d .readable ≡ true → (f : ℕ) × StartsAt ts bytes kept at f (d .idle) (d .start)
-      × (next-from ts bytes at f (d .idle) ≡ next-at ts bytes at)
+      × (next-from ts bytes at f (d .idle) ≡ next-at ts bytes at front)

@@ -1,18 +1,12 @@
--- Tasks by slots and by bits: the least of numbers, the mask of the tasks that pass a test, and the lowest of them as a number. Assumes nothing.
+-- Tasks by slots and by bits: the mask of the tasks that pass a test, and the lowest of them as a number. Assumes nothing.
 use mathlib.Core.Bool.{Bool, true, false}
 use mathlib.Core.List.{List}
 use mathlib.Core.Option.{Option, none, some}
-use Prim.Native.Nat.{ℕ, zero, suc, _+_, _*_, _-_, _^_, min}
+use Prim.Native.Nat.{ℕ, zero, suc, _+_, _*_, _-_, _^_}
 use lib.Dec.{leb}
 use lib.Bits.{bitOr, bitAnd}
-use Rattle.fields.specs.Body.{head₀, tail₀}
 use Rattle.rules.specs.Tasks.{limits}
 use Rattle.rules.specs.Priority.{slot}
-
--- the least of the numbers in the first n slots and a bound
-abbrev pub least-of : ℕ → ℕ → List ℕ → ℕ
-least-of zero bound numbers = bound
-least-of (suc n) bound numbers = min (head₀ numbers) (least-of n bound (tail₀ numbers))
 
 -- a test as a bit
 abbrev pub bit : Bool → ℕ

@@ -16,9 +16,8 @@ use sets::HYPERPERIOD;
 use sets::SLACK;
 use sets::TASKS;
 ghost use mathlib.Core.Path.{_≡_};
-ghost use mathlib.Core.List.{List};
 ghost use mathlib.Core.Bool.{true};
-ghost use Prim.Native.Nat.{ℕ, _+_, max, min, _≤_, _<_};
+ghost use Prim.Native.Nat.{ℕ, _+_, min, _≤_, _<_};
 ghost use lib.Dec.{eqb};
 ghost use lib.Count.{trailingZeros};
 ghost use lib.ListN.{length};
@@ -26,25 +25,24 @@ ghost use Rattle.rules.specs.Tasks.{Set};
 ghost use Rattle.rules.specs.Marks as book-marks;
 ghost use Rattle.rules.specs.Offsets.{last-offset, lent, readable, tasks-readable, own-delay};
 ghost use Rattle.images.specs.Table.{mark-of};
-ghost use Rattle.sets.specs.Kept.{Rows, tasks-in, Keeps};
-ghost use Rattle.decision.specs.Fits.{idle-offset-in, Fits};
+ghost use Rattle.sets.specs.Kept.{Rows, tasks-in, hyperperiod-in, Keeps};
+ghost use Rattle.decision.specs.Fits.{Stands};
 ghost use Rattle.decision.specs.Shown.{whole-at, idle-case, inversion-case, no-delay, delay-number};
-ghost use Rattle.decision.specs.Waiting.{mask-of, come-by, set-bit, clear-bit, least-of};
+ghost use Rattle.decision.specs.Waiting.{mask-of, come-by, set-bit, clear-bit};
 ghost use Rattle.decision.specs.Next.{IdlesRead, AllRead, next-from, FindsNext, past-if, Choosing, IsChosen, StartsAt, Idling, IdledTo};
 
-// Where replay stands, in rows of sixteen slots: instants, and of each task the number of its next job, that job's release and the task's offset.
-pub const INSTANTS: usize = 0;
+// Where replay stands, in rows of sixteen slots: of each task the number of its next job, that job's release and the task's offset.
+pub const NEXT: usize = 0;
 
-pub const NEXT: usize = 1;
+pub const RELEASE: usize = 1;
 
-pub const RELEASE: usize = 2;
+pub const OFFSETS: usize = 2;
 
-pub const OFFSETS: usize = 3;
-
-// The slots of its instants: that from which the processor is free, and the ID offset.
-pub const FREE: usize = 0;
-
-pub const IDLE: usize = 1;
+// How far replay has come: the instant from which the processor is free, and the ID offset.
+pub struct Front {
+    pub free: u32,
+    pub idle: u32,
+}
 
 // The last offset: every record ends at or before this byte, so none begins there.
 pub const LAST_OFFSET: u32 = LARGEST;
@@ -96,7 +94,7 @@ fn idle_judged(image: &[u8], o: u32) -> IdleShown
 
 // At the ID offset stands a whole ID, PV or EN; a record outside its own range is unreadable. Where the image's records were judged and the offset
 // stands among them, it can be read, and the first byte tells.
-fn idle_shown(image: &[u8], judged: bool, kept: &[[u32; 16]; 5], o: u32) -> IdleShown
+fn idle_shown(image: &[u8], judged: bool, kept: &[[u32; 16]; 6], o: u32) -> IdleShown
     requires few { ⌜ tasks-in (now kept) ≤ 16 ⌝ }
     requires read { ⌜ (judged ≡ true → ((ts : Set) × Keeps ts (now kept) × (readable (lent (now image) ts .idle-shown o) ≡ true))) ⌝ }
     ensures { λ r. ⌜ ((ts : Set) → Keeps ts (now (kept .entry)) → r ≡ idle-case (lent (now (image .entry)) ts .idle-shown o)) ⌝ }
@@ -133,7 +131,7 @@ pub enum InversionShown {
 }
 
 // At a task's offset stands a whole PV or EN.
-fn inversion_shown(image: &[u8], kept: &[[u32; 16]; 5], offset: u32) -> InversionShown
+fn inversion_shown(image: &[u8], kept: &[[u32; 16]; 6], offset: u32) -> InversionShown
     requires { ⌜ tasks-in (now kept) ≤ 16 ⌝ }
     ensures { λ r. ⌜ ((ts : Set) → Keeps ts (now (kept .entry)) →
         r ≡ inversion-case (lent (now (image .entry)) ts .inversion-shown offset)) ⌝ }
@@ -154,7 +152,7 @@ fn inversion_shown(image: &[u8], kept: &[[u32; 16]; 5], offset: u32) -> Inversio
 
 // Can all tasks' offsets be read? They are the same at every decision on the way to one start: idling moves the ID offset alone. Where the image's
 // records were judged and the offsets stand among them, they can be.
-fn tasks_readable(image: &[u8], judged: bool, kept: &[[u32; 16]; 5], offsets: &[u32; 16]) -> bool
+fn tasks_readable(image: &[u8], judged: bool, kept: &[[u32; 16]; 6], offsets: &[u32; 16]) -> bool
     requires few { ⌜ tasks-in (now kept) ≤ 16 ⌝ }
     requires read { ⌜ (judged ≡ true → ((ts : Set) × Keeps ts (now kept)
         × (tasks-readable (lent (now image) ts) (tasks-in (now kept)) (now offsets) ≡ true))) ⌝ }
@@ -179,22 +177,6 @@ fn tasks_readable(image: &[u8], judged: bool, kept: &[[u32; 16]; 5], offsets: &[
         }
         i += 1;
     }
-}
-
-// The least of n numbers and a bound.
-fn least(n: usize, bound: u32, numbers: &[u32; 16]) -> u32
-    requires { ⌜ n ≤ 16 ⌝ }
-    ensures { λ r. ⌜ r ≡ least-of n bound (now (numbers .entry)) ⌝ }
-{
-    let mut least = bound;
-    let mut i: usize = 0;
-    while i < n {
-        if numbers[i] < least {
-            least = numbers[i];
-        }
-        i += 1;
-    }
-    least
 }
 
 // Waiting tasks are one bit each: a release sets it.
@@ -294,7 +276,7 @@ pub struct Chosen {
 }
 
 // Rules (2) and (3): the lowest task with a record for this instant, else the lowest waiting one. A task with such a record waits.
-fn chosen_task(image: &[u8], at: &[[u32; 16]; 4], mask: u16, t: u32) -> Chosen
+fn chosen_task(image: &[u8], at: &[[u32; 16]; 3], mask: u16, t: u32) -> Chosen
     requires { ⌜ ((ts : Set) × (kept : Rows) × Choosing ts (now image) kept (now at) t mask) ⌝ }
     ensures { λ r. ⌜ ((ts : Set) (kept : Rows) → Choosing ts (now (image .entry)) kept (now (at .entry)) t mask →
         IsChosen ts (now (image .entry)) kept (now (at .entry)) t mask r) ⌝ }
@@ -357,8 +339,8 @@ fn own_offset(own: bool, offset: u32) -> u32
 // unless all that still wait have higher numbers.
 fn start_at(
     image: &[u8],
-    kept: &[[u32; 16]; 5],
-    at: &[[u32; 16]; 4],
+    kept: &[[u32; 16]; 6],
+    at: &[[u32; 16]; 3],
     idle: u32,
     t: u32,
 ) -> NextStart
@@ -395,16 +377,6 @@ fn start_at(
     })
 }
 
-// The later of two instants.
-fn later(a: u32, b: u32) -> u32
-    ensures { λ r. ⌜ r ≡ max a b ⌝ }
-{
-    if a < b {
-        return b;
-    }
-    a
-}
-
 // Where idling ends: whether the ID offset could be read all the way; the instant at which no idle record is used, and the ID offset there.
 pub struct Idled {
     pub readable: bool,
@@ -424,18 +396,24 @@ fn ended(readable: bool, start: u32, idle: u32) -> Idled
 }
 
 // Past the idle records that are used, one at each decision, from the free instant, the least release and the ID offset.
-fn past_idles(image: &[u8], judged: bool, kept: &[[u32; 16]; 5], at: &[[u32; 16]; 4]) -> Idled
-    requires { ⌜ ((ts : Set) × Idling ts (now image) (now kept) (now at)
-        × (judged ≡ true → IdlesRead (lent (now image) ts) (idle-offset-in (now at)))) ⌝ }
+fn past_idles(
+    image: &[u8],
+    judged: bool,
+    kept: &[[u32; 16]; 6],
+    at: &[[u32; 16]; 3],
+    front: Front,
+) -> Idled
+    requires by_end { ⌜ front .free ≤ hyperperiod-in (now kept) ⌝ }
+    requires idling { ⌜ ((ts : Set) × Idling ts (now image) (now kept) (now at) × (judged ≡ true → IdlesRead (lent (now image) ts) (front .idle))) ⌝ }
     ensures { λ r. ⌜ ((ts : Set) → Idling ts (now (image .entry)) (now (kept .entry)) (now (at .entry)) →
-        IdledTo ts (now (image .entry)) (now (kept .entry)) (now (at .entry)) r) ⌝ }
+        IdledTo ts (now (image .entry)) (now (kept .entry)) (now (at .entry)) front r) ⌝ }
 {
     let n = kept[FIGURES][TASKS] as usize;
-    let first = least(n, kept[FIGURES][HYPERPERIOD], &at[RELEASE]);
-    let mut from = at[INSTANTS][FREE];
-    let mut o = at[INSTANTS][IDLE];
+    let first = sets::least(n, kept[FIGURES][HYPERPERIOD], &at[RELEASE]);
+    let mut from = front.free;
+    let mut o = front.idle;
     'decisions: loop {
-        let t = later(from, first);
+        let t = sets::later(from, first);
         match idle_shown(image, judged, kept, o) {
             IdleShown::Unreadable => {
                 break 'decisions ended(false, t, o);
@@ -459,16 +437,18 @@ fn past_idles(image: &[u8], judged: bool, kept: &[[u32; 16]; 5], at: &[[u32; 16]
 pub fn next_start(
     image: &[u8],
     judged: bool,
-    kept: &[[u32; 16]; 5],
-    at: &[[u32; 16]; 4],
+    kept: &[[u32; 16]; 6],
+    at: &[[u32; 16]; 3],
+    front: Front,
 ) -> NextStart
-    requires { ⌜ ((ts : Set) × Fits ts (now kept) (now at) × (judged ≡ true → AllRead (now image) ts (now kept) (now at))) ⌝ }
-    ensures { λ r. ⌜ FindsNext (now (image .entry)) (now (kept .entry)) (now (at .entry)) r ⌝ }
+    requires { ⌜ ((ts : Set) × Stands ts (now kept) (now at) front
+        × (judged ≡ true → AllRead (now image) ts (now kept) (now at) (front .idle))) ⌝ }
+    ensures { λ r. ⌜ FindsNext (now (image .entry)) (now (kept .entry)) (now (at .entry)) front r ⌝ }
 {
     if !tasks_readable(image, judged, kept, &at[OFFSETS]) {
         return NextStart::Stuck(25);
     }
-    let d = past_idles(image, judged, kept, at);
+    let d = past_idles(image, judged, kept, at, front);
     if !d.readable {
         return NextStart::Stuck(25);
     }

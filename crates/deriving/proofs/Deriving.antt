@@ -1,5 +1,5 @@
 -- Deriving from a timetable image that is judged: the refusal that it was judged with, no room, or the image of its tables. Assumes nothing.
-use mathlib.Core.Path.{_≡_, refl, sym, _∙_, ap, ap₂}
+use mathlib.Core.Path.{_≡_, refl, sym, _∙_, ap}
 use mathlib.Core.Bool.{true}
 use mathlib.Core.List.{List, [], _∷_}
 use Prim.Native.Nat.{ℕ, _+_, _*_, _≤_, _<_}
@@ -9,46 +9,49 @@ use borrow.Author.Tests.{le-leb, lt-leb}
 use Rattle.rules.specs.declared.Entry.{Entry}
 use Rattle.rules.specs.declared.MakeAnswer.the-variants as make-case
 use Rattle.rules.specs.Refusals.{Judged, gives, refuses, refusal}
-use Rattle.rules.specs.Tasks.{Set, limits, hyperperiod, memory-set}
+use Rattle.rules.specs.Tasks.{Set, limits, memory-set}
 use Rattle.rules.specs.Setting.{Tables}
+use Rattle.rules.specs.Judging.{tables}
 use Rattle.rules.specs.Marks.{ID, PV, EN, size, head-length-of}
 use Rattle.rules.specs.Image.{image, record-of, head-records, table-image}
 use Rattle.rules.specs.Operations.{derived, derived-image, make-answer, output-after, into, derive, derive-output, Derives}
+use Rattle.rules.proofs.GoodSets.{set-good}
 use Rattle.rules.proofs.Images.{records-before, table-image-length}
+use Rattle.sets.specs.Kept.{Rows, hyperperiod-in}
 use Rattle.writing.specs.Writing.{put-at, record-put}
 use Rattle.timetables.specs.declared.Timetable.{Timetable}
 use Rattle.timetables.specs.declared.Counts.{Counts}
 use Rattle.timetables.specs.Judged.{entries-behind, Good, JudgedAs}
-use Rattle.timetables.specs.Counted.{tables-of, Counted}
-use Rattle.deriving.specs.Putting.{EntriesValid, tables-put}
+use Rattle.timetables.specs.Counted.{Counted}
+use Rattle.deriving.specs.Putting.{EntriesValid, tables-put, CanPut}
 use Rattle.deriving.proofs.ImagePut.{table-put}
 use Rattle.deriving.proofs.ValidEntries.{few-idles, few-inversions}
 
 -- what an image is refused with is answered, and the output is as it was
-pub refused-so : (bytes old : List ℕ) (t : Timetable) → JudgedAs bytes true t → (t .refusal .number ≡ 0 → ⊥) →
+pub refused-so : {bytes : List ℕ} {kept : Rows} {t : Timetable} (old : List ℕ) → JudgedAs bytes true t kept → (t .refusal .number ≡ 0 → ⊥) →
     Derives bytes old (make-case.Refused (t .refusal)) old
 unfolding derive derive-output
-refused-so bytes old t judged numbered = let e = judged .refused numbered .0 in record { answer = rw e; output = rw e }
+refused-so old judged numbered = let e = judged .refused numbered .0 in record { answer = rw e; output = rw e }
 
-module _ (bytes : List ℕ) (t : Timetable) (g : Good bytes true t) where
+module _ {bytes : List ℕ} {kept : Rows} {t : Timetable} (g : Good bytes true t kept) where
   -- the set's tasks
   abbrev ts : Set
   ts = memory-set (t .set)
 
   abbrev τ : List Entry
-  τ = entries-behind bytes (t .set) (t .listed)
+  τ = entries-behind bytes ts (t .listed)
 
   -- the entries are those of a valid timetable
-  pub its-entries : EntriesValid bytes (t .set) (hyperperiod ts) (t .listed)
+  its-entries : EntriesValid ts bytes kept (t .listed)
   its-entries = record { stand = g .stand; no-fault = g .no-fault }
 
   -- with these tables
   abbrev X : Tables
-  X = tables-of ts (hyperperiod ts) τ
+  X = tables ts τ
 
   -- they are derived
   derives : derived bytes ≡ gives (record { set = ts; tables = X })
-  derives = rw (g .read, g .stand .good, g .no-fault)
+  derives = rw (g .read, set-good ts (hyperperiod-in kept) (g .stand .keeps .good) .0, g .no-fault)
 
   -- and their image is put where there is room
   image-given : (room : ℕ) → derived-image room bytes ≡ into room (table-image ts X)
@@ -59,15 +62,20 @@ module _ (bytes : List ℕ) (t : Timetable) (g : Good bytes true t) where
   c = t .counts
 
   -- as many as there are
-  pub counted : Counted ts (hyperperiod ts) τ c
+  counted : Counted ts τ c
   counted = g .counted refl
+
+  -- and can be put where there is room for them
+  pub can-put : {out : List ℕ} → head-length-of (t .set .n) + c .idles * size ID + c .inversions * size PV ≤ length out →
+      CanPut ts bytes kept (t .listed) c out
+  can-put room = record { valid = its-entries; counted = counted; room = omega (arith, g .tasks-many) }
 
   -- what is counted is few
   pub few-counted : (c .idles ≤ limits .ticks) × (c .inversions ≤ limits .jobs) × (t .set .n ≤ limits .tasks)
   few-counted = (
     omega (arith, counted .idles, few-idles its-entries),
     omega (arith, counted .inversions, few-inversions its-entries),
-    g .stand .few,
+    omega (arith, g .tasks-many, g .stand .keeps .n-tasks, g .stand .keeps .few),
   )
 
   -- how long the image of its tables is
@@ -100,7 +108,7 @@ module _ (bytes : List ℕ) (t : Timetable) (g : Good bytes true t) where
     -- and the set, the tables and EN put one behind the other are the image at the front of the output, with all other bytes as they were
     pub put-out : (set-put tables-in end-put : List ℕ) (end before : ℕ) →
         set-put ≡ put-at old 0 (image (head-records 2 ts)) →
-        tables-in ≡ tables-put set-put (t .set .n) X →
+        tables-in ≡ tables-put set-put ts X →
         end-put ≡ record-put tables-in end (record-of EN (before ∷ [])) →
         end + size EN ≡ n → before ≡ t .set .n + 1 + c .idles + c .inversions → end-put ≡ derive-output bytes old
     unfolding derive-output
@@ -108,8 +116,7 @@ module _ (bytes : List ℕ) (t : Timetable) (g : Good bytes true t) where
         let here : end ≡ head-length-of (length (ts .tasks)) + length (X .idles) * size ID + length (X .inversions) * size PV =
         omega (arith, g .tasks-many, counted .idles, counted .inversions) in
         let number : before ≡ records-before ts X = omega (arith, g .tasks-many, counted .idles, counted .inversions) in
-        let behind : tables-in ≡ tables-put (put-at old 0 (image (head-records 2 ts))) (length (ts .tasks)) X =
-        second ∙ ap₂ (λ (o : List ℕ) (k : ℕ). tables-put o k X) first (sym (g .tasks-many)) in
+        let behind : tables-in ≡ tables-put (put-at old 0 (image (head-records 2 ts))) ts X = second ∙ ap (λ (o : List ℕ). tables-put o ts X) first in
         third
         ∙ rw (here, number, behind) (table-put ts X old (omega (arith, image-long)))
         ∙ sym (ap (λ (z : Judged (List ℕ)). output-after z old) given)

@@ -4,22 +4,21 @@ use mathlib.Core.List.{List, _∷_}
 use Prim.Native.Nat.{ℕ, _+_, _-_, _≤_, _<_}
 use native.Mathlib.Nat.{div-le-self}
 use native.Mathlib.Omega.{arith}
-use lib.ListN.{length, getD, set}
-use Rattle.rules.specs.declared.Task.{Task}
-use Rattle.rules.specs.declared.TaskSet.{TaskSet}
+use lib.ListN.{length}
 use Rattle.rules.specs.declared.Entry.{Entry}
-use Rattle.rules.specs.Tasks.{limits, task, memory-set}
+use Rattle.rules.specs.Tasks.{Set, limits, task, hyperperiod}
 use Rattle.rules.specs.Setting.{Setting}
-use Rattle.rules.specs.Priority.{slot, start-job, setting-of}
+use Rattle.rules.specs.Priority.{slot, start-job, setting}
 use Rattle.rules.specs.Marks.{SL, size}
 use Rattle.rules.proofs.Theory.{ValidFrom, entry}
 use Rattle.rules.proofs.PriorityLaws.{StartKeepsRules, keeps-rules}
-use Rattle.rules.proofs.Arrays.{task-in-slot}
 use Rattle.rules.proofs.Starts.{valid-first}
+use Rattle.sets.specs.Kept.{Rows, tasks-in}
 use Rattle.timetables.specs.Entries.{entry-in, entries-at}
 use Rattle.timetables.specs.Judged.{EntriesStand}
 use Rattle.timetables.proofs.EntriesRead.{entry-left}
-use Rattle.timetables.proofs.Turns.{AtEntry, stands-good, GoodStart, room, turn-task, turn-good, turn-next}
+use Rattle.sets.proofs.SetKept.{kept-good}
+use Rattle.timetables.proofs.Turns.{AtEntry, free-after, releases-after, GoodStart, turn-task, freed, turn-good, turn-next}
 
 -- behind a first entry the others go on from there
 others-valid : {G : Setting} {x : G .Started} {f : ℕ} {e : Entry} {σ : List Entry} → ValidFrom G x f (e ∷ σ) →
@@ -27,22 +26,18 @@ others-valid : {G : Setting} {x : G .Started} {f : ℕ} {e : Entry} {σ : List E
 others-valid (entry ok valid) = valid
 
 -- the walk at an entry from which on the timetable is valid
-pub record ValidAt (bytes : List ℕ) (s : TaskSet) (h listed : ℕ) (releases x : List ℕ) (free at j : ℕ) : Type 0 where
-  pub all : EntriesStand bytes s h listed
-  pub here : AtEntry bytes s h releases x at j
-  pub valid : ValidFrom (setting-of (memory-set s) h) x free (entries-at bytes at (listed - j))
+pub record ValidAt (ts : Set) (bytes : List ℕ) (kept : Rows) (listed : ℕ) (releases x : List ℕ) (free at j : ℕ) : Type 0 where
+  pub all : EntriesStand ts bytes kept listed
+  pub here : AtEntry ts kept releases x at j
+  pub valid : ValidFrom (setting ts) x free (entries-at bytes at (listed - j))
 
-module _ {bytes : List ℕ} {s : TaskSet} {h listed : ℕ} {releases x : List ℕ} {free at j : ℕ} (w : ValidAt bytes s h listed releases x free at j)
-    (more : j < listed) where
+module _ {ts : Set} {bytes : List ℕ} {kept : Rows} {listed : ℕ} {releases x : List ℕ} {free at j : ℕ}
+    (w : ValidAt ts bytes kept listed releases x free at j) (more : j < listed) where
   -- an entry that is left stands in the image
   pub entry-inside : at + size SL ≤ length bytes
   entry-inside = omega (arith, w .here .place, w .all .inside)
 
-  module _ {e : Entry} (is : e ≡ entry-in bytes at) (d : Task) where
-    -- the set's setting
-    abbrev G : Setting
-    G = setting-of (memory-set s) h
-
+  module _ {e : Entry} (is : e ≡ entry-in bytes at) where
     -- the entries behind this one
     abbrev others : List Entry
     others = entries-at bytes (at + size SL) (listed - (j + 1))
@@ -52,30 +47,29 @@ module _ {bytes : List ℕ} {s : TaskSet} {h listed : ℕ} {releases x : List �
     first-left = entry-left bytes at listed j more ∙ ap (λ (y : Entry). y ∷ others) (sym is)
 
     -- the walk goes on through it
-    from-here : ValidFrom G x free (e ∷ others)
-    from-here = subst (λ (σ : List Entry). ValidFrom G x free σ) first-left (w .valid)
+    from-here : ValidFrom (setting ts) x free (e ∷ others)
+    from-here = subst (λ (σ : List Entry). ValidFrom (setting ts) x free σ) first-left (w .valid)
 
     -- its start keeps the rules
-    pub entry-keeps : StartKeepsRules (memory-set s) h x free (e .task) (e .start)
-    entry-keeps = keeps-rules (memory-set s) h x free (e .task) (e .start) (valid-first from-here)
+    pub entry-keeps : StartKeepsRules ts (hyperperiod ts) x free (e .task) (e .start)
+    entry-keeps = keeps-rules ts (hyperperiod ts) x free (e .task) (e .start) (valid-first from-here)
 
     -- it is of a task
-    pub entry-task : e .task < s .n
-    entry-task = turn-task (w .here) e d entry-keeps
+    pub entry-task : e .task < tasks-in kept
+    entry-task = turn-task (w .here) e entry-keeps
 
     -- and what that means for its slots
-    pub entry-good : GoodStart (getD (s .tasks) (e .task) d) (getD releases (e .task) 0) (e .start)
-    entry-good = turn-good (w .here) e d entry-keeps
+    pub entry-good : GoodStart kept releases e
+    entry-good = turn-good (w .here) e entry-keeps
 
     -- its task has few jobs
     pub few-started : slot x (e .task) + 1 ≤ limits .ticks
-    few-started = omega (arith, entry-keeps .left, div-le-self h (task (memory-set s) (e .task) .period), stands-good (w .all) .short)
+    few-started = omega (arith, entry-keeps .left, div-le-self (hyperperiod ts) (task ts (e .task) .period), kept-good (w .all .keeps) .short)
 
     -- the walk at the next entry
-    pub entry-next : ValidAt bytes s h listed (set releases (e .task) (getD releases (e .task) 0 + getD (s .tasks) (e .task) d .period))
-        (start-job x (e .task)) (e .start + getD (s .tasks) (e .task) d .time) (at + size SL) (j + 1)
+    pub entry-next : ValidAt ts bytes kept listed (releases-after kept releases e) (start-job x (e .task)) (free-after kept e) (at + size SL) (j + 1)
     entry-next = record {
       all = w .all;
-      here = turn-next (w .here) e d entry-keeps entry-inside;
-      valid = rw (task-in-slot s (e .task) d (room (w .here)) entry-task) at (others-valid from-here);
+      here = turn-next (w .here) e entry-keeps;
+      valid = rw (freed (w .here) e entry-keeps) at (others-valid from-here);
     }

@@ -4,20 +4,27 @@ use images::END_SIZE;
 use images::ENTRY_SIZE;
 use images::IDLE_SIZE;
 use images::INVERSION_SIZE;
+use rules::Entry;
 use rules::Idle;
 use rules::Inversion;
 use rules::LARGEST;
 use rules::MakeAnswer;
 use rules::Refusal;
-use rules::TaskSet;
+use sets::FIGURES;
+use sets::FIRST;
+use sets::PERIODS;
+use sets::TASKS;
+use sets::TIMES;
 use timetables::Counts;
 ghost use mathlib.Core.Path.{_≡_};
-ghost use Prim.Native.Nat.{max, _≤_};
-ghost use lib.ListN.{length, take};
-ghost use Rattle.rules.specs.Tasks as book;
+ghost use mathlib.Core.Bool.{true};
+ghost use Prim.Native.Nat.{_+_, _≤_, _<_};
+ghost use lib.ListN.{length, getD};
+ghost use Rattle.rules.specs.Tasks.{Set};
+ghost use Rattle.rules.specs.Marks.{ID, PV, size};
 ghost use Rattle.rules.specs.Operations.{Derives};
-ghost use Rattle.timetables.specs.Instants.{least-of};
-ghost use Rattle.deriving.specs.Putting.{FewCounted, PartsBegin, tables-put, tables-behind, CanPut};
+ghost use Rattle.timetables.specs.Instants.{instant-of, idles-before, inverts};
+ghost use Rattle.deriving.specs.Putting.{FewCounted, PartsBegin, IdlePut, InversionPut, tables-put, tables-behind, CanPut};
 
 // An instant that no release comes to: there is no next job.
 const NEVER: u32 = LARGEST;
@@ -26,20 +33,9 @@ const NEVER: u32 = LARGEST;
 fn instant(n: usize, release: &[u32; 16], free: u32) -> u32
     requires few { ⌜ n ≤ 16 ⌝ }
     requires slots { ⌜ length (now release) ≡ 16 ⌝ }
-    ensures { λ r. ⌜ r ≡ max free (least-of (take n (now (release .entry)))) ⌝ }
+    ensures { λ r. ⌜ r ≡ instant-of n (now (release .entry)) free ⌝ }
 {
-    let mut least = NEVER;
-    let mut i: usize = 0;
-    while i < n {
-        if release[i] < least {
-            least = release[i];
-        }
-        i += 1;
-    }
-    if least < free {
-        return free;
-    }
-    least
+    sets::later(free, sets::least(n, NEVER, release))
 }
 
 // The byte offset of each task's first PV record, behind the set and the idles.
@@ -59,50 +55,82 @@ fn first_offsets(n: u32, c: Counts) -> [usize; 16]
     offsets
 }
 
-// The ID records one behind the other, and each PV record at its own task's place.
-fn put_irregularities(image: &[u8], s: TaskSet, listed: usize, c: Counts, out: &mut [u8])
-    requires { ⌜ CanPut (now image) s (book.hyperperiod (book.memory-set s)) listed c (now out) ⌝ }
-    ensures { λ _. ⌜ now (out .exit) ≡ tables-put (now (out .entry)) (s .n) (tables-behind (now (image .entry)) s listed) ⌝ }
+// The forced idle before an entry's start, where there is one, put at a place; and the place behind it.
+fn put_idle(
+    out: &mut [u8],
+    place: usize,
+    n: usize,
+    release: &[u32; 16],
+    free: u32,
+    e: Entry,
+) -> usize
+    requires a_task { ⌜ e .task < n ⌝ }
+    requires few { ⌜ n ≤ 16 ⌝ }
+    requires slots { ⌜ length (now release) ≡ 16 ⌝ }
+    requires room { ⌜ (idles-before n (now release) free e ≡ true → place + size ID ≤ length (now out)) ⌝ }
+    ensures { λ r. ⌜ IdlePut n (now (release .entry)) free e (now (out .entry)) place (now (out .exit)) r ⌝ }
 {
-    let n = s.n as usize;
-    let mut release = timetables::first_releases(s);
+    if !timetables::idles_before(n, release, e.task as usize, free, e.start) {
+        return place;
+    }
+    let now = instant(n, release, free);
+    writing::put_idle(
+        out,
+        place,
+        Idle {
+            start: now,
+            length: e.start - now,
+        },
+    );
+    place + IDLE_SIZE
+}
+
+// The inversion of an entry, where it is one, put at a place; and the place behind it.
+fn put_inversion(out: &mut [u8], place: usize, release: &[u32; 16], job: u32, e: Entry) -> usize
+    requires a_task { ⌜ e .task < 16 ⌝ }
+    requires slots { ⌜ length (now release) ≡ 16 ⌝ }
+    requires released { ⌜ getD (now release) (e .task) 0 ≤ e .start ⌝ }
+    requires room { ⌜ (inverts (now release) e ≡ true → place + size PV ≤ length (now out)) ⌝ }
+    ensures { λ r. ⌜ InversionPut (now (release .entry)) job e (now (out .entry)) place (now (out .exit)) r ⌝ }
+{
+    let i = e.task as usize;
+    if !timetables::lower_waits(release, i, e.start) {
+        return place;
+    }
+    writing::put_inversion(
+        out,
+        place,
+        Inversion {
+            task: e.task,
+            job,
+            delay: e.start - release[i],
+        },
+    );
+    place + INVERSION_SIZE
+}
+
+// The ID records one behind the other, and each PV record at its own task's place.
+fn put_irregularities(image: &[u8], kept: &[[u32; 16]; 6], listed: usize, c: Counts, out: &mut [u8])
+    requires { ⌜ ((ts : Set) × CanPut ts (now image) (now kept) listed c (now out)) ⌝ }
+    ensures { λ _. ⌜ ((ts : Set) → CanPut ts (now (image .entry)) (now (kept .entry)) listed c (now (out .entry)) →
+        now (out .exit) ≡ tables-put (now (out .entry)) ts (tables-behind (now (image .entry)) ts listed)) ⌝ }
+{
+    let n = kept[FIGURES][TASKS] as usize;
+    let mut release = kept[FIRST];
     let mut next = [0u32; 16];
     let mut free: u32 = 0;
     let mut idle_at = images::head_length(n);
-    let mut offsets = first_offsets(s.n, c);
+    let mut offsets = first_offsets(kept[FIGURES][TASKS], c);
     let mut at = images::head_length(n);
     let mut j: usize = 0;
     while j < listed {
         let e = images::entry_at(image, at);
         let i = e.task as usize;
-        let t = s.tasks[i];
-        if timetables::idles_before(n, &release, i, free, e.start) {
-            let now = instant(n, &release, free);
-            writing::put_idle(
-                out,
-                idle_at,
-                Idle {
-                    start: now,
-                    length: e.start - now,
-                },
-            );
-            idle_at += IDLE_SIZE;
-        }
-        if timetables::lower_waits(&release, i, e.start) {
-            writing::put_inversion(
-                out,
-                offsets[i],
-                Inversion {
-                    task: e.task,
-                    job: next[i],
-                    delay: e.start - release[i],
-                },
-            );
-            offsets[i] += INVERSION_SIZE;
-        }
+        idle_at = put_idle(out, idle_at, n, &release, free, e);
+        offsets[i] = put_inversion(out, offsets[i], &release, next[i], e);
         next[i] += 1;
-        release[i] += t.period;
-        free = e.start + t.time;
+        release[i] += kept[PERIODS][i];
+        free = e.start + kept[TIMES][i];
         at += ENTRY_SIZE;
         j += 1;
     }
@@ -112,7 +140,8 @@ fn put_irregularities(image: &[u8], s: TaskSet, listed: usize, c: Counts, out: &
 pub fn derive(image: &[u8], out: &mut [u8]) -> MakeAnswer
     ensures { λ r. ⌜ Derives (now (image .entry)) (now (out .entry)) r (now (out .exit)) ⌝ }
 {
-    let t = timetables::judge(image, true);
+    let mut kept = [[0u32; 16]; 6];
+    let t = timetables::judge(image, true, &mut kept);
     if t.refusal.number != 0 {
         let r = t.refusal;
         return MakeAnswer::Refused(r);
@@ -129,7 +158,7 @@ pub fn derive(image: &[u8], out: &mut [u8]) -> MakeAnswer
         });
     }
     writing::put_set(out, 2, s);
-    put_irregularities(image, s, t.listed, c, out);
+    put_irregularities(image, &kept, t.listed, c, out);
     let before = images::head_count(n) + c.idles + c.inversions;
     writing::put_end(out, end, before as u32);
     MakeAnswer::Made(length)

@@ -4,9 +4,9 @@ use mathlib.Core.Bool.{Bool, true, false, not}
 use mathlib.Core.List.{List, []}
 use Prim.Native.Nat.{ℕ, suc, _+_, _*_, _≤_, _<_}
 use native.Mathlib.Omega.{arith}
-use lib.Dec.{ltb}
+use lib.Dec.{ltb, leb}
 use lib.ListN.{length}
-use borrow.Author.Tests.{lt-ltb, le-ltb, le-leb}
+use borrow.Author.Tests.{lt-ltb, le-ltb, le-leb, lt-leb}
 use Rattle.rules.specs.declared.Task.{Task}
 use Rattle.rules.specs.declared.SetAnswer.the-variants as set-case
 use Rattle.rules.specs.declared.Figures.{Figures}
@@ -26,29 +26,30 @@ use Rattle.rules.proofs.ForcedIdle.{released-in-cycle}
 use Rattle.rules.proofs.GoodSets.{set-good, good-rules}
 use Rattle.rules.proofs.Shown.{slot-front}
 use Rattle.rules.proofs.Arrays.{memory-many}
-use Rattle.sets.specs.Kept.{Rows, tasks-in, hyperperiod-in, Keeps, Filled}
+use Rattle.sets.specs.Kept.{Rows, tasks-in, hyperperiod-in, first-in, Keeps}
+use Rattle.sets.specs.Scans.{lowest-below}
 use Rattle.sets.proofs.Promises.{good-exactly}
-use Rattle.numbers.specs.Numbers.{number-at, state-from}
+use Rattle.sets.proofs.Scans.{found-below, none-before}
+use Rattle.numbers.specs.Numbers.{state-from}
 use Rattle.decision.specs.Fits.{next-in, releases-in, Fits}
 use Rattle.decision.proofs.Fitting.{left-before}
 use Rattle.dispatcher.specs.Tested.{last-and-in-time, AllStarted}
 use Rattle.dispatcher.specs.Stored.{in-next-cycle, start-from}
 use Rattle.dispatcher.specs.States.{WithGoodSet, stands-at, CanGoOn, CanStart}
-use Rattle.dispatcher.proofs.Lent.{room, first-release}
+use Rattle.dispatcher.proofs.Lent.{room}
 use Rattle.dispatcher.proofs.Zeros.{fails-first, fails-later, fails-as, passes-as}
 
 -- a state that is not stopped, and whose set is judged good
-pub with-good-set : (lent : List ℕ) (f : Figures) → length lent ≡ number-count → is-stopped (state-from lent) ≡ false →
-    set-case.Good f ≡ judge-set (state-from lent .set) → WithGoodSet lent f
-with-good-set lent f long running e =
+pub with-good-set : (lent : List ℕ) {kept : Rows} (f : Figures) → length lent ≡ number-count → is-stopped (state-from lent) ≡ false →
+    set-case.Good f ≡ judge-set (state-from lent .set) → Keeps (set-of (state-from lent)) kept → WithGoodSet lent kept
+with-good-set lent f long running e keeps =
     let in-memory = good-exactly (state-from lent .set) (set-case.Good f) e f .0 refl in
     record {
       long = long;
       not-stopped = running;
       some-tasks = in-memory .some-tasks;
-      few-tasks = in-memory .few-tasks;
-      good = in-memory .good;
-      counted = in-memory .counted;
+      n-tasks = keeps .n-tasks ∙ memory-many (state-from lent .set) (room lent (in-memory .few-tasks));
+      keeps = keeps;
     }
 
 module _ (bytes : List ℕ) (d : State) (end : ℕ) where
@@ -71,16 +72,20 @@ module _ (bytes : List ℕ) (d : State) (end : ℕ) where
       (λ q n. impossible s (rw n))
 
 -- the tests of a state with a good set
-module _ {lent : List ℕ} {f : Figures} (g : WithGoodSet lent f) where
+module _ {lent : List ℕ} {kept : Rows} (g : WithGoodSet lent kept) where
   abbrev d : State
   d = state-from lent
 
   abbrev h : ℕ
-  h = f .hyperperiod
+  h = hyperperiod-in kept
+
+  -- there are at most sixteen tasks
+  pub few-tasks : state-from lent .set .n ≤ limits .tasks
+  few-tasks = omega (arith, g .n-tasks, g .keeps .few)
 
   -- h is the hyperperiod
   cycle-is : h ≡ hyperperiod (set-of d)
-  cycle-is = set-good (set-of d) h (g .good) .1
+  cycle-is = set-good (set-of d) h (g .keeps .good) .1
 
   -- the state is possible where the code's three tests pass
   tested : possible d
@@ -90,8 +95,8 @@ module _ {lent : List ℕ} {f : Figures} (g : WithGoodSet lent f) where
   unfolding last-and-in-time
   tested =
       let few : few-enough (d .set .n) ≡ true =
-      both-in _ _ (le-leb 1 (d .set .n) (g .some-tasks)) (le-leb (d .set .n) (limits .tasks) (g .few-tasks)) in
-      rw (few, set-good (set-of d) h (g .good) .0, ← cycle-is)
+      both-in _ _ (le-leb 1 (d .set .n) (g .some-tasks)) (le-leb (d .set .n) (limits .tasks) few-tasks) in
+      rw (few, set-good (set-of d) h (g .keeps .good) .0, ← cycle-is)
 
   module _ (test : Bool) (is : test ≡ counts-possible h (set-of d .tasks) (d .next)) where
     -- a next job number is above the task's jobs
@@ -128,7 +133,7 @@ module _ {lent : List ℕ} {f : Figures} (g : WithGoodSet lent f) where
       let p : PossibleState d = is-possible d e in
       let i : ℕ = d .running .task in
       let t : Task = task (set-of d) i in
-      let many : length (set-of d .tasks) ≡ d .set .n = memory-many (d .set) (room lent (g .few-tasks)) in
+      let many : length (set-of d .tasks) ≡ d .set .n = memory-many (d .set) (room lent few-tasks) in
       let same : p .h ≡ h = set-good (set-of d) (p .h) (p .good-set) .1 ∙ sym cycle-is in
       let count = p .counts i (omega (arith, p .a-task, many)) in
       let by-due = due-in-cycle (p .h) (d .running .job) t (good-rules (p .good-set) i) (omega (arith, count, p .last-started)) in
@@ -169,11 +174,11 @@ module _ {lent : List ℕ} {f : Figures} (g : WithGoodSet lent f) where
 -- whether all jobs of a cycle have started, by the releases of the next ones
 module _ {ts : Set} {kept at : Rows} (fits : Fits ts kept at) where
   -- one is before the end of the cycle
-  pub one-left : (i : ℕ) → i < tasks-in kept → slot (releases-in at) i < hyperperiod-in kept → false ≡ all-started (hyperperiod-in kept) (ts .tasks) (next-in at)
+  one-left : (i : ℕ) → i < tasks-in kept → slot (releases-in at) i < hyperperiod-in kept → false ≡ all-started (hyperperiod-in kept) (ts .tasks) (next-in at)
   one-left i l before = sym (left-not-all (hyperperiod-in kept) (ts .tasks) (next-in at) i (omega (arith, fits .set .n-tasks)) (left-before fits i l before))
 
   -- or none is
-  pub none-left : ((i : ℕ) → i < tasks-in kept → hyperperiod-in kept ≤ slot (releases-in at) i) → true ≡ all-started (hyperperiod-in kept) (ts .tasks) (next-in at)
+  none-left : ((i : ℕ) → i < tasks-in kept → hyperperiod-in kept ≤ slot (releases-in at) i) → true ≡ all-started (hyperperiod-in kept) (ts .tasks) (next-in at)
   none-left past =
       let h = hyperperiod-in kept in
       let x = next-in at in
@@ -191,6 +196,15 @@ module _ {ts : Set} {kept at : Rows} (fits : Fits ts kept at) where
         fits .releases-there i a-task,
       )))))
 
+  -- as a scan for one tells
+  pub by-scan : (i : ℕ) → i ≡ lowest-below (tasks-in kept) 0 (hyperperiod-in kept) (releases-in at) →
+      leb (tasks-in kept) i ≡ all-started (hyperperiod-in kept) (ts .tasks) (next-in at)
+  by-scan i e =
+      let n = tasks-in kept in
+      let h = hyperperiod-in kept in
+      by-le n i (λ l. le-leb n i l ∙ none-left (λ k m. none-before n 0 h (releases-in at) k (omega arith) (omega arith)))
+      (λ l. lt-leb n i l ∙ one-left i l (rw e (found-below n 0 h (releases-in at) (omega arith))))
+
 -- a start makes the same of a state as its next cycle begins and of the state before: it keeps the set and the first offsets alone
 begun-alike : (bytes : List ℕ) (d : State) (n : ℕ) (x : NextStart) →
     started bytes (in-next-cycle d n) (suc (d .cycle)) (at-cycle-start d) x ≡ started bytes d (suc (d .cycle)) (at-cycle-start d) x
@@ -198,16 +212,17 @@ begun-alike bytes d n (next-is i t o) = refl
 begun-alike bytes d n (stuck number) = refl
 
 -- a state in which nothing has started in its cycle, with each job 0 released at its task's offset
-pub at-start : {lent : List ℕ} {kept : Rows} {before releases : List ℕ} → length lent ≡ number-count → tasks-in kept ≡ state-from lent .set .n →
-    Keeps (set-of (state-from lent)) kept → ((i : ℕ) → i < tasks-in kept → slot (state-from lent .next) i ≡ 0) →
-    Filled before (λ (k : ℕ). number-at lent (1 + 4 * k)) 0 (tasks-in kept) releases → CanStart lent kept releases 0
-at-start {lent} long n-tasks keeps none filled = record {
+pub at-start : {lent : List ℕ} {kept : Rows} → length lent ≡ number-count → tasks-in kept ≡ state-from lent .set .n →
+    Keeps (set-of (state-from lent)) kept → ((i : ℕ) → i < tasks-in kept → slot (state-from lent .next) i ≡ 0) → CanStart lent kept (first-in kept) 0
+at-start long n-tasks keeps none = record {
   long = long;
   n-tasks = n-tasks;
-  fits = record {
-    set = keeps;
-    counts = λ i l. omega (arith, none i l);
-    releases-there = λ i l. rw (none i l) (first-release lent n-tasks (keeps .few) filled i l ∙ omega arith);
+  stands = record {
+    fits = record {
+      set = keeps;
+      counts = λ i l. omega (arith, none i l);
+      releases-there = λ i l. rw (none i l) (keeps .first-there i l ∙ omega arith);
+    };
     by-end = omega arith;
   };
 }
@@ -218,19 +233,19 @@ module _ {lent : List ℕ} {kept : Rows} {releases : List ℕ} {free : ℕ} (c :
   here = state-from lent
 
   -- what the first start of the next cycle is made from
-  pub next-cycle : {after before first : List ℕ} → length after ≡ number-count → state-from after ≡ in-next-cycle here (tasks-in kept) →
-      Filled before (λ (k : ℕ). number-at after (1 + 4 * k)) 0 (tasks-in kept) first → CanStart after kept first 0
-  next-cycle {after} long is filled =
+  pub next-cycle : {after : List ℕ} → length after ≡ number-count → state-from after ≡ in-next-cycle here (tasks-in kept) →
+      CanStart after kept (first-in kept) 0
+  next-cycle {after} long is =
       let next-is : state-from after .next ≡ front (tasks-in kept) [] (here .next) = ap (λ (d : State). d .next) is in
-      at-start long (c .starts .n-tasks ∙ sym (ap (λ (d : State). d .set .n) is)) (rw (ap set-of is) (c .starts .fits .set))
-      (λ i l. rw (next-is, slot-front (tasks-in kept) [] (here .next) i l, slot-empty i)) filled
+      at-start long (c .starts .n-tasks ∙ sym (ap (λ (d : State). d .set .n) is)) (rw (ap set-of is) (c .starts .stands .fits .set))
+      (λ i l. rw (next-is, slot-front (tasks-in kept) [] (here .next) i l, slot-empty i))
 
   -- the next turn, by whether all jobs of the cycle have started
   module _ (bytes : List ℕ) (test : Bool) (is : AllStarted kept releases test) where
     as-tested : all-started (hyperperiod (set-of here)) (set-of here .tasks) (here .next) ≡ test
     as-tested =
-        rw (← set-good (set-of here) (hyperperiod-in kept) (c .starts .fits .set .good) .1)
-        (sym (is (set-of here) (stands-at here releases free) (c .starts .fits) refl))
+        rw (← set-good (set-of here) (hyperperiod-in kept) (c .starts .stands .fits .set .good) .1)
+        (sym (is (set-of here) (stands-at here releases) (c .starts .stands .fits) refl))
 
     -- they have not: the next job of this cycle
     pub in-this-cycle : test ≡ false → start-from bytes here free ≡ next-turn bytes here

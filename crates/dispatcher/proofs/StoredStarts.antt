@@ -13,7 +13,7 @@ use Rattle.rules.specs.declared.Turn.{Turn}
 use Rattle.rules.specs.Priority.{slot}
 use Rattle.rules.specs.Offsets.{put-slot}
 use Rattle.rules.specs.Dispatcher.{task-numbers, numbers, front, Shaped, number-count}
-use Rattle.rules.specs.Dispatcher.{next-at, cycle-at, task-at, job-at, start-at, idle-at, inversions-at, first-idle-at, first-inversions-at}
+use Rattle.rules.specs.Dispatcher.{next-position, cycle-position, task-position, job-position, start-position, idle-position, inversions-position, first-idle-position, first-inversions-position}
 use Rattle.rules.proofs.Arrays.{slot-element}
 use Rattle.rules.proofs.PriorityLaws.{slot-empty}
 use Rattle.rules.proofs.PossibleStates.{four-each}
@@ -97,27 +97,27 @@ module _ (d : State) (w : Shaped d) (v : ℕ) where
       d .cycle ∷ d .running .task ∷ d .running .job ∷ d .running .start ∷ d .now .idle ∷ (d .now .inversions ++ others)
 
   -- behind the set
-  behind-set : (k : ℕ) → set (numbers d) (next-at + k) v ≡ d .set .n ∷ (tasks ++ set (d .next ++ behind) k v)
+  behind-set : (k : ℕ) → set (numbers d) (next-position + k) v ≡ d .set .n ∷ (tasks ++ set (d .next ++ behind) k v)
   behind-set k =
-      let at : next-at + k ≡ suc (length tasks + k) = omega (arith, w, four-each (d .set .tasks)) in
+      let at : next-position + k ≡ suc (length tasks + k) = omega (arith, w, four-each (d .set .tasks)) in
       ap (λ (p : ℕ). set (numbers d) p v) at
       ∙ ap (λ (x : List ℕ). d .set .n ∷ x) (set-behind tasks (d .next ++ behind) (length tasks + k) k v refl)
 
   -- behind the next job numbers
-  behind-next : (k p : ℕ) → p ≡ cycle-at + k → set (numbers d) p v ≡ d .set .n ∷ (tasks ++ (d .next ++ set behind k v))
+  behind-next : (k p : ℕ) → p ≡ cycle-position + k → set (numbers d) p v ≡ d .set .n ∷ (tasks ++ (d .next ++ set behind k v))
   behind-next k p e =
-      let at : p ≡ next-at + (length (d .next) + k) = omega (arith, w) in
+      let at : p ≡ next-position + (length (d .next) + k) = omega (arith, w) in
       ap (λ (q : ℕ). set (numbers d) q v) at
       ∙ behind-set (length (d .next) + k)
       ∙ ap (λ (x : List ℕ). d .set .n ∷ (tasks ++ x)) (set-behind (d .next) behind (length (d .next) + k) k v refl)
 
   -- a next job number, and a task's offset
-  next-put : (i : ℕ) → i < 16 → set (numbers d) (next-at + i) v ≡ numbers (with-next d i v)
+  next-put : (i : ℕ) → i < 16 → set (numbers d) (next-position + i) v ≡ numbers (with-next d i v)
   next-put i l = behind-set i ∙ ap (λ (x : List ℕ). d .set .n ∷ (tasks ++ x)) (set-inside (d .next) behind i v (omega (arith, w)))
 
-  inversion-put : (i : ℕ) → i < 16 → set (numbers d) (inversions-at + i) v ≡ numbers (with-inversion d i v)
+  inversion-put : (i : ℕ) → i < 16 → set (numbers d) (inversions-position + i) v ≡ numbers (with-inversion d i v)
   inversion-put i l =
-      behind-next (suc (suc (suc (suc (suc i))))) (inversions-at + i) (omega arith)
+      behind-next (suc (suc (suc (suc (suc i))))) (inversions-position + i) (omega arith)
       ∙ ap
       (λ (x : List ℕ).
       d .set .n
@@ -136,49 +136,49 @@ module _ (lent : List ℕ) (long : length lent ≡ number-count) (v : ℕ) where
   stored p e shaped is = ap (λ (x : List ℕ). state-from (set x p v)) (sym (numbers-of-state lent long)) ∙ ap state-from is ∙ state-of-numbers e shaped
 
   -- a next job number
-  next-stored : (i : ℕ) → i < 16 → state-from (set lent (next-at + i) v) ≡ with-next d i v
+  next-stored : (i : ℕ) → i < 16 → state-from (set lent (next-position + i) v) ≡ with-next d i v
   next-stored i l =
-      stored (next-at + i) _
+      stored (next-position + i) _
       (record { tasks = w .tasks; next = put-length (d .next) i v (omega (arith, w)) ∙ w .next; now = w .now; first = w .first })
       (next-put d w v i l)
 
   -- a task's offset
-  inversion-stored : (i : ℕ) → i < 16 → state-from (set lent (inversions-at + i) v) ≡ with-inversion d i v
+  inversion-stored : (i : ℕ) → i < 16 → state-from (set lent (inversions-position + i) v) ≡ with-inversion d i v
   inversion-stored i l =
-      stored (inversions-at + i) _
+      stored (inversions-position + i) _
       (record { tasks = w .tasks; next = w .next; now = put-length (d .now .inversions) i v (omega (arith, w)) ∙ w .now; first = w .first })
       (inversion-put d w v i l)
 
   -- the cycle
-  cycle-stored : state-from (set lent cycle-at v) ≡ with-cycle d v
+  cycle-stored : state-from (set lent cycle-position v) ≡ with-cycle d v
   cycle-stored =
-      stored cycle-at _ (record { tasks = w .tasks; next = w .next; now = w .now; first = w .first }) (behind-next d w v 0 cycle-at refl)
+      stored cycle-position _ (record { tasks = w .tasks; next = w .next; now = w .now; first = w .first }) (behind-next d w v 0 cycle-position refl)
 
   -- the running job's task, its number, its start
-  task-stored : state-from (set lent task-at v) ≡ with-running d v (d .running .job) (d .running .start)
-  task-stored = stored task-at _ (record { tasks = w .tasks; next = w .next; now = w .now; first = w .first }) (behind-next d w v 1 task-at refl)
+  task-stored : state-from (set lent task-position v) ≡ with-running d v (d .running .job) (d .running .start)
+  task-stored = stored task-position _ (record { tasks = w .tasks; next = w .next; now = w .now; first = w .first }) (behind-next d w v 1 task-position refl)
 
-  job-stored : state-from (set lent job-at v) ≡ with-running d (d .running .task) v (d .running .start)
-  job-stored = stored job-at _ (record { tasks = w .tasks; next = w .next; now = w .now; first = w .first }) (behind-next d w v 2 job-at refl)
+  job-stored : state-from (set lent job-position v) ≡ with-running d (d .running .task) v (d .running .start)
+  job-stored = stored job-position _ (record { tasks = w .tasks; next = w .next; now = w .now; first = w .first }) (behind-next d w v 2 job-position refl)
 
-  start-stored : state-from (set lent start-at v) ≡ with-running d (d .running .task) (d .running .job) v
-  start-stored = stored start-at _ (record { tasks = w .tasks; next = w .next; now = w .now; first = w .first }) (behind-next d w v 3 start-at refl)
+  start-stored : state-from (set lent start-position v) ≡ with-running d (d .running .task) (d .running .job) v
+  start-stored = stored start-position _ (record { tasks = w .tasks; next = w .next; now = w .now; first = w .first }) (behind-next d w v 3 start-position refl)
 
   -- the ID offset
-  idle-stored : state-from (set lent idle-at v) ≡ with-idle d v
-  idle-stored = stored idle-at _ (record { tasks = w .tasks; next = w .next; now = w .now; first = w .first }) (behind-next d w v 4 idle-at refl)
+  idle-stored : state-from (set lent idle-position v) ≡ with-idle d v
+  idle-stored = stored idle-position _ (record { tasks = w .tasks; next = w .next; now = w .now; first = w .first }) (behind-next d w v 4 idle-position refl)
 
 -- one task more is at the start of the next cycle
 pub one-task-more : (d : State) (lent : List ℕ) (i : ℕ) → length lent ≡ number-count → i < 16 → state-from lent ≡ in-next-cycle d i →
-    state-from (set (set lent (next-at + i) 0) (inversions-at + i) (number-at (set lent (next-at + i) 0) (first-inversions-at + i)))
+    state-from (set (set lent (next-position + i) 0) (inversions-position + i) (number-at (set lent (next-position + i) 0) (first-inversions-position + i)))
     ≡ in-next-cycle d (i + 1)
 one-task-more d lent i long l is =
-    let next = set lent (next-at + i) 0 in
-    let offset = number-at next (first-inversions-at + i) in
-    let next-long : length next ≡ number-count = length-set lent (next-at + i) 0 ∙ long in
+    let next = set lent (next-position + i) 0 in
+    let offset = number-at next (first-inversions-position + i) in
+    let next-long : length next ≡ number-count = length-set lent (next-position + i) 0 ∙ long in
     let next-is : state-from next ≡ with-next (in-next-cycle d i) i 0 = next-stored lent long 0 i l ∙ ap (λ (e : State). with-next e i 0) is in
     let offset-is : offset ≡ slot (d .first .inversions) i =
-    sym (slot-element _ i ∙ in-slot (λ (k : ℕ). number-at next (first-inversions-at + k)) 0 i l)
+    sym (slot-element _ i ∙ in-slot (λ (k : ℕ). number-at next (first-inversions-position + k)) 0 i l)
     ∙ ap (λ (e : State). slot (e .first .inversions) i) next-is in
     let jobs : put-slot (front i [] (d .next)) i 0 ≡ front (suc i) [] (d .next) =
     ap (put-slot (front i [] (d .next)) i) (sym (slot-empty i)) ∙ front-put i [] (d .next) in
@@ -191,13 +191,13 @@ one-task-more d lent i long l is =
 
 -- the cycle is counted and the ID offset is the first one, and no task is at the cycle's start yet
 pub cycle-counted : (lent : List ℕ) → length lent ≡ number-count →
-    state-from (set (set lent cycle-at (number-at lent cycle-at + 1)) idle-at (number-at (set lent cycle-at (number-at lent cycle-at + 1)) first-idle-at))
+    state-from (set (set lent cycle-position (number-at lent cycle-position + 1)) idle-position (number-at (set lent cycle-position (number-at lent cycle-position + 1)) first-idle-position))
     ≡ in-next-cycle (state-from lent) 0
 cycle-counted lent long =
-    let counted = set lent cycle-at (number-at lent cycle-at + 1) in
-    let counted-is : state-from counted ≡ with-cycle (state-from lent) (suc (number-at lent cycle-at)) =
-    cycle-stored lent long _ ∙ ap (with-cycle (state-from lent)) (add-one (number-at lent cycle-at)) in
-    idle-stored counted (length-set lent cycle-at (number-at lent cycle-at + 1) ∙ long) _
+    let counted = set lent cycle-position (number-at lent cycle-position + 1) in
+    let counted-is : state-from counted ≡ with-cycle (state-from lent) (suc (number-at lent cycle-position)) =
+    cycle-stored lent long _ ∙ ap (with-cycle (state-from lent)) (add-one (number-at lent cycle-position)) in
+    idle-stored counted (length-set lent cycle-position (number-at lent cycle-position + 1) ∙ long) _
     ∙ ap (λ (d : State). with-idle d (d .first .idle)) counted-is
 
 -- all that a start stores
@@ -206,12 +206,12 @@ after-start lent f =
     set
     (set
     (set
-    (set (set (set lent (next-at + f .task) (number-at lent (next-at + f .task) + 1)) task-at (f .task)) job-at (number-at lent (next-at + f .task)))
-    start-at
+    (set (set (set lent (next-position + f .task) (number-at lent (next-position + f .task) + 1)) task-position (f .task)) job-position (number-at lent (next-position + f .task)))
+    start-position
     (f .start))
-    idle-at
+    idle-position
     (f .idle))
-    (inversions-at + f .task)
+    (inversions-position + f .task)
     (f .inversion)
 
 -- the state has the start then
@@ -219,17 +219,17 @@ pub start-made : (lent : List ℕ) (f : Found) → length lent ≡ number-count 
     (state-from (after-start lent f) ≡ with-start (state-from lent) f) × (length (after-start lent f) ≡ number-count)
 start-made lent f long l =
     let i = f .task in
-    let job = number-at lent (next-at + i) in
-    let a = set lent (next-at + i) (job + 1) in
-    let b = set a task-at i in
-    let c = set b job-at job in
-    let d = set c start-at (f .start) in
-    let e = set d idle-at (f .idle) in
-    let a-long : length a ≡ number-count = length-set lent (next-at + i) (job + 1) ∙ long in
-    let b-long : length b ≡ number-count = length-set a task-at i ∙ a-long in
-    let c-long : length c ≡ number-count = length-set b job-at job ∙ b-long in
-    let d-long : length d ≡ number-count = length-set c start-at (f .start) ∙ c-long in
-    let e-long : length e ≡ number-count = length-set d idle-at (f .idle) ∙ d-long in
+    let job = number-at lent (next-position + i) in
+    let a = set lent (next-position + i) (job + 1) in
+    let b = set a task-position i in
+    let c = set b job-position job in
+    let d = set c start-position (f .start) in
+    let e = set d idle-position (f .idle) in
+    let a-long : length a ≡ number-count = length-set lent (next-position + i) (job + 1) ∙ long in
+    let b-long : length b ≡ number-count = length-set a task-position i ∙ a-long in
+    let c-long : length c ≡ number-count = length-set b job-position job ∙ b-long in
+    let d-long : length d ≡ number-count = length-set c start-position (f .start) ∙ c-long in
+    let e-long : length e ≡ number-count = length-set d idle-position (f .idle) ∙ d-long in
     let a-is = next-stored lent long (job + 1) i l in
     let b-is = task-stored a a-long i ∙ ap (λ (s : State). with-running s i (s .running .job) (s .running .start)) a-is in
     let c-is = job-stored b b-long job ∙ ap (λ (s : State). with-running s (s .running .task) job (s .running .start)) b-is in
@@ -238,7 +238,7 @@ start-made lent f long l =
       inversion-stored e e-long (f .inversion) i l
           ∙ ap (λ (s : State). with-inversion s i (f .inversion)) e-is
           ∙ rw (next-lent lent i l, put-next (state-from lent .next) i),
-      length-set e (inversions-at + i) (f .inversion) ∙ e-long,
+      length-set e (inversions-position + i) (f .inversion) ∙ e-long,
     )
 
 -- a turn is stored where the answer and the state are right

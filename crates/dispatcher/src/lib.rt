@@ -1,7 +1,7 @@
 // The dispatcher: beginning and going on, with the state as the numbers that it lies in memory as, by value, and in place. For any bytes, any state and any
 // reported end. Every start, the first one, one in a cycle and one as a cycle begins, is looked for and stored in one place.
-use decision::FREE;
 use decision::Found;
+use decision::Front;
 use decision::NextStart;
 use numbers::CYCLE;
 use numbers::FIRST_IDLE;
@@ -13,8 +13,8 @@ use numbers::NEXT;
 use numbers::NUMBERS;
 use numbers::START;
 use numbers::TASK;
+use numbers::TASK_NUMBERS;
 use rules::Dispatcher;
-use rules::Figures;
 use rules::LARGEST;
 use rules::Offsets;
 use rules::Refusal;
@@ -25,26 +25,24 @@ use rules::StartAnswer;
 use rules::Task;
 use rules::TaskSet;
 use rules::Turn;
-use sets::ALL_JOBS;
 use sets::FIGURES;
+use sets::FIRST;
 use sets::HYPERPERIOD;
 use sets::JOBS;
 use sets::PERIODS;
-use sets::SLACK;
 use sets::TASKS;
-use sets::TIMES;
 ghost use mathlib.Core.Path.{_≡_};
-ghost use Prim.Native.Nat.{ℕ, _+_, _*_, _≤_, _<_};
+ghost use Prim.Native.Nat.{_+_, _*_, _≤_, _<_};
 ghost use lib.ListN.{length};
 ghost use Rattle.rules.specs.declared.StartAnswer.the-variants.{Refused};
 ghost use Rattle.rules.specs.Refusals.{refusal};
 ghost use Rattle.rules.specs.Dispatcher as book;
 ghost use Rattle.numbers.specs.Numbers.{number-at, state-from};
-ghost use Rattle.sets.specs.Kept.{tasks-in, Filled};
+ghost use Rattle.sets.specs.Kept.{tasks-in};
 ghost use Rattle.dispatcher.specs.Stored.{fresh-state, in-next-cycle, with-start, start-from, TurnStored};
 ghost use Rattle.dispatcher.specs.Tested.{last-and-in-time, AllStarted};
 ghost use Rattle.dispatcher.specs.Turns.{Begun, GoneOn, BegunInPlace, GoneOnInPlace, BegunNumbers, GoneOnNumbers};
-ghost use Rattle.dispatcher.specs.States.{WithGoodSet, figures-kept, with-task, CanMeasure, Measured, CanGoOn, CanStart};
+ghost use Rattle.dispatcher.specs.States.{WithGoodSet, CanMeasure, Measured, CanGoOn, CanStart};
 
 // The last cycle.
 const LAST_CYCLE: u32 = LARGEST;
@@ -89,7 +87,7 @@ fn absolute(cycle: u32, h: u32, at: u32) -> u64
 // Stores the start of a task's next job.
 fn store_start(numbers: &mut [u32; NUMBERS], f: Found)
     requires slot { ⌜ f .task < 16 ⌝ }
-    requires next { ⌜ number-at (now numbers) (book.next-at + f .task) < book.last-cycle ⌝ }
+    requires next { ⌜ number-at (now numbers) (book.next-position + f .task) < book.last-cycle ⌝ }
     requires long { ⌜ length (now numbers) ≡ book.number-count ⌝ }
     ensures state { λ _. ⌜ state-from (now (numbers .exit)) ≡ with-start (state-from (now (numbers .entry))) f ⌝ }
     ensures long { λ _. ⌜ length (now (numbers .exit)) ≡ book.number-count ⌝ }
@@ -108,20 +106,21 @@ fn store_start(numbers: &mut [u32; NUMBERS], f: Found)
 fn start_next(
     image: &[u8],
     numbers: &mut [u32; NUMBERS],
-    kept: &[[u32; 16]; 5],
+    kept: &[[u32; 16]; 6],
     release: &[u32; 16],
     free: u32,
 ) -> StartAnswer
     requires { ⌜ CanStart (now numbers) (now kept) (now release) free ⌝ }
     ensures { λ r. ⌜ TurnStored (start-from (now (image .entry)) (state-from (now (numbers .entry))) free) r (now (numbers .exit)) ⌝ }
 {
-    let mut instants = [0u32; 16];
-    instants[FREE] = free;
-    instants[decision::IDLE] = numbers[IDLE];
+    let front = Front {
+        free,
+        idle: numbers[IDLE],
+    };
     let next = numbers::numbers_from(numbers, NEXT);
     let offsets = numbers::numbers_from(numbers, INVERSIONS);
-    let mut at = [instants, next, *release, offsets];
-    match replay::one_start(image, kept, &mut at) {
+    let mut at = [next, *release, offsets];
+    match replay::one_start(image, kept, &mut at, front) {
         NextStart::Stuck(_) => stop(numbers, 25, 0),
         NextStart::Starts(f) => {
             store_start(numbers, f);
@@ -136,23 +135,10 @@ fn start_next(
     }
 }
 
-// The release of each of n tasks' job 0: its offset.
-fn first_releases(numbers: &[u32; NUMBERS], n: usize, release: &mut [u32; 16])
-    requires few { ⌜ n ≤ 16 ⌝ }
-    requires slots { ⌜ length (now release) ≡ 16 ⌝ }
-    ensures { λ _. ⌜ Filled (now (release .entry)) (λ (i : ℕ). number-at (now (numbers .entry)) (1 + 4 * i)) 0 n (now (release .exit)) ⌝ }
-{
-    let mut i: usize = 0;
-    while i < n {
-        release[i] = numbers[1 + 4 * i];
-        i += 1;
-    }
-}
-
 // Begins the next cycle: next jobs 0 and offsets as at a cycle's start, of the n tasks; slots from n up stay.
 fn begin_again(numbers: &mut [u32; NUMBERS], n: usize)
     requires few { ⌜ n ≤ 16 ⌝ }
-    requires another { ⌜ number-at (now numbers) book.cycle-at < book.last-cycle ⌝ }
+    requires another { ⌜ number-at (now numbers) book.cycle-position < book.last-cycle ⌝ }
     requires long { ⌜ length (now numbers) ≡ book.number-count ⌝ }
     ensures state { λ _. ⌜ state-from (now (numbers .exit)) ≡ in-next-cycle (state-from (now (numbers .entry))) n ⌝ }
     ensures long { λ _. ⌜ length (now (numbers .exit)) ≡ book.number-count ⌝ }
@@ -168,27 +154,19 @@ fn begin_again(numbers: &mut [u32; NUMBERS], n: usize)
 }
 
 // Have all jobs of the cycle started: is no next release before its end?
-fn all_started(kept: &[[u32; 16]; 5], release: &[u32; 16]) -> bool
+fn all_started(kept: &[[u32; 16]; 6], release: &[u32; 16]) -> bool
     requires { ⌜ tasks-in (now kept) ≤ 16 ⌝ }
     ensures { λ r. ⌜ AllStarted (now (kept .entry)) (now (release .entry)) r ⌝ }
 {
     let n = kept[FIGURES][TASKS] as usize;
-    let h = kept[FIGURES][HYPERPERIOD];
-    let mut i: usize = 0;
-    while i < n {
-        if release[i] < h {
-            return false;
-        }
-        i += 1;
-    }
-    true
+    n <= sets::missing(n, kept[FIGURES][HYPERPERIOD], release)
 }
 
 // The next job of this cycle, from a free instant, or, when all have started, the first of the next; 24 behind the last cycle.
 fn next_turn(
     image: &[u8],
     numbers: &mut [u32; NUMBERS],
-    kept: &[[u32; 16]; 5],
+    kept: &[[u32; 16]; 6],
     release: &[u32; 16],
     free: u32,
 ) -> StartAnswer
@@ -203,8 +181,7 @@ fn next_turn(
     }
     let n = kept[FIGURES][TASKS] as usize;
     begin_again(numbers, n);
-    let mut first = [0u32; 16];
-    first_releases(numbers, n, &mut first);
+    let first = kept[FIRST];
     start_next(image, numbers, kept, &first, 0)
 }
 
@@ -221,69 +198,38 @@ fn last_and_in_time(t: Task, next: u32, r: Running) -> bool
     (r.start as u64) + (t.time as u64) <= sets::due(t, r.job)
 }
 
-// What is kept of a task, into its slot of the rows.
-fn keep_task(kept: &mut [[u32; 16]; 5], i: usize, many: u32, t: Task)
-    requires rows { ⌜ length (now kept) ≡ 5 ⌝ }
-    requires slot { ⌜ i < 16 ⌝ }
-    requires fits { ⌜ t .time ≤ t .deadline ⌝ }
-    ensures { λ _. ⌜ now (kept .exit) ≡ with-task (now (kept .entry)) i many t ⌝ }
-{
-    kept[JOBS][i] = many;
-    kept[SLACK][i] = t.deadline - t.time;
-    kept[TIMES][i] = t.time;
-    kept[PERIODS][i] = t.period;
-}
-
-// What a call asks of each task: what is kept of it, beside the set's figures, and the release of its next job. False where a next job number is above
-// its task's jobs; then the rows are left as they came to be.
-fn measured(numbers: &[u32; NUMBERS], kept: &mut [[u32; 16]; 5], release: &mut [u32; 16]) -> bool
+// The release of each task's next job. False where a next job number is above its task's jobs; then the releases are left as they came to be.
+fn measured(numbers: &[u32; NUMBERS], kept: &[[u32; 16]; 6], release: &mut [u32; 16]) -> bool
     requires { ⌜ CanMeasure (now numbers) (now kept) (now release) ⌝ }
-    ensures { λ r. ⌜ Measured (now (numbers .entry)) (now (kept .entry)) r (now (kept .exit)) (now (release .exit)) ⌝ }
+    ensures { λ r. ⌜ Measured (now (numbers .entry)) (now (kept .entry)) r (now (release .exit)) ⌝ }
 {
     let n = kept[FIGURES][TASKS] as usize;
-    let h = kept[FIGURES][HYPERPERIOD];
-    let mut before: u32 = 0;
-    let mut many: u32 = 0;
     let mut i: usize = 0;
     'tasks: loop {
         if n <= i {
             break 'tasks true;
         }
-        let t = numbers::task_from(numbers, 1 + 4 * i);
-        if t.period != before {
-            many = sets::jobs(h, t);
-            before = t.period;
-        }
         let next = numbers[NEXT + i];
-        if many < next {
+        if kept[JOBS][i] < next {
             break 'tasks false;
         }
-        keep_task(kept, i, many, t);
-        release[i] = t.offset + next * t.period;
+        release[i] = kept[FIRST][i] + next * kept[PERIODS][i];
         i += 1;
     }
 }
 
-// The rows of a state's set, of which the figures are filled in.
-fn with_figures(n: u32, f: Figures) -> [[u32; 16]; 5]
-    ensures { λ r. ⌜ r ≡ figures-kept n f ⌝ }
-{
-    let zeros = [0u32; 16];
-    let mut figures = [0u32; 16];
-    figures[TASKS] = n;
-    figures[HYPERPERIOD] = f.hyperperiod;
-    figures[ALL_JOBS] = f.jobs;
-    [figures, zeros, zeros, zeros, zeros]
-}
-
 // Going on with a state that is not stopped and whose set is good.
-fn go_on_good(image: &[u8], numbers: &mut [u32; NUMBERS], f: Figures, end: u64) -> StartAnswer
-    requires { ⌜ WithGoodSet (now numbers) f ⌝ }
+fn go_on_good(
+    image: &[u8],
+    numbers: &mut [u32; NUMBERS],
+    kept: &[[u32; 16]; 6],
+    end: u64,
+) -> StartAnswer
+    requires { ⌜ WithGoodSet (now numbers) (now kept) ⌝ }
     ensures { λ r. ⌜ GoneOnNumbers (now (image .entry)) (now (numbers .entry)) end r (now (numbers .exit)) ⌝ }
 {
-    let mut kept = with_figures(numbers[0], f);
     let mut release = [0u32; 16];
-    if !measured(numbers, &mut kept, &mut release) {
+    if !measured(numbers, kept, &mut release) {
         return stop(numbers, 25, 0);
     }
     let running = Running {
@@ -295,18 +241,18 @@ fn go_on_good(image: &[u8], numbers: &mut [u32; NUMBERS], f: Figures, end: u64) 
         return stop(numbers, 25, 0);
     }
     let i = running.task as usize;
-    let t = numbers::task_from(numbers, 1 + 4 * i);
+    let t = numbers::task_from(numbers, 1 + TASK_NUMBERS * i);
     if !last_and_in_time(t, numbers[NEXT + i], running) {
         return stop(numbers, 25, 0);
     }
-    let began = absolute(numbers[CYCLE], f.hyperperiod, running.start);
+    let began = absolute(numbers[CYCLE], kept[FIGURES][HYPERPERIOD], running.start);
     if end < began {
         return refused(21);
     }
     if (t.time as u64) < end - began {
         return stop(numbers, 22, 0);
     }
-    next_turn(image, numbers, &kept, &release, running.start + t.time)
+    next_turn(image, numbers, kept, &release, running.start + t.time)
 }
 
 // Going on with a state's numbers, in the order 23, 25 for the state, 21, 22, 24, 25 for bytes. Those are stored that change.
@@ -316,9 +262,10 @@ pub fn go_on_numbers(image: &[u8], numbers: &mut [u32; NUMBERS], end: u64) -> St
     if is_stopped(numbers) {
         return refused(23);
     }
-    match sets::judge_numbers(numbers[0], numbers, 1) {
+    let mut kept = [[0u32; 16]; 6];
+    match sets::judge_kept(numbers[0], numbers, 1, &mut kept) {
         SetAnswer::Refused(_) => stop(numbers, 25, 0),
-        SetAnswer::Good(f) => go_on_good(image, numbers, f, end),
+        SetAnswer::Good(_) => go_on_good(image, numbers, &kept, end),
     }
 }
 
@@ -355,7 +302,7 @@ fn fresh(set: TaskSet, first: Offsets) -> Dispatcher
 pub fn begin_numbers(image: &[u8], numbers: &mut [u32; NUMBERS]) -> StartAnswer
     ensures { λ r. ⌜ BegunNumbers (now (image .entry)) r (now (numbers .exit)) ⌝ }
 {
-    let mut kept = [[0u32; 16]; 5];
+    let mut kept = [[0u32; 16]; 6];
     let t = tables::judge(image, &mut kept);
     if t.refusal.number != 0 {
         return stop(numbers, t.refusal.number, t.refusal.place);
@@ -363,9 +310,7 @@ pub fn begin_numbers(image: &[u8], numbers: &mut [u32; NUMBERS]) -> StartAnswer
     let set = t.set;
     let first = t.first;
     *numbers = numbers::numbers_of(fresh(set, first));
-    let n = kept[FIGURES][TASKS] as usize;
-    let mut release = [0u32; 16];
-    first_releases(numbers, n, &mut release);
+    let release = kept[FIRST];
     start_next(image, numbers, &kept, &release, 0)
 }
 

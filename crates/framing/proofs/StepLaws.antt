@@ -13,7 +13,7 @@ use Rattle.rules.specs.declared.Place.{Place}
 use Rattle.rules.specs.declared.Layout.{Layout}
 use Rattle.rules.specs.declared.Refusal.{Refusal}
 use Rattle.rules.specs.Refusals.{gives, refuses, refusal}
-use Rattle.rules.specs.Marks.{EN, row, marks, size, mark-in, values}
+use Rattle.rules.specs.Marks.{mark-count, EN, row, marks, size, mark-in, values}
 use Rattle.rules.specs.Framing.{may-follow, if-allowed, mark-at, frame-records, index-of-end, start-place, frame}
 use Rattle.rules.proofs.Cases.{both-true}
 use Rattle.rules.proofs.FramingTurns as turns
@@ -35,7 +35,7 @@ found-inside (x ∷ xs) (suc k) d h = found-inside xs k d (omega arith)
 pub record MarkedAt (kind : ℕ) (bytes : List ℕ) (s : Place) (k : ℕ) : Type 0 where
   pub two : 2 ≤ length bytes - s .offset
   pub found : found-at k ≡ mark-in marks (getD bytes (s .offset) 0) (getD bytes (s .offset + 1) 0)
-  pub inside : k < 6
+  pub inside : k < mark-count
   pub may : allowed-at kind (s .rank) k ≡ true
 
 -- what one record comes to, by the tests in their order
@@ -54,17 +54,17 @@ module _ (kind : ℕ) (bytes : List ℕ) (s : Place) where
           let first : getD rest 0 0 ≡ getD bytes (s .offset) 0 = rw (getD-drop (s .offset) bytes 0 0, add-zero) in
           ap₂ (λ (a b : ℕ). if-allowed kind s (mark-in marks a b)) first (getD-drop (s .offset) bytes 1 0) ∙ ap (if-allowed kind s) (sym found)
 
-      mark-inside : k < 6 → mark-at kind s rest ≡ if-allowed kind s (some (mark-of k))
+      mark-inside : k < mark-count → mark-at kind s rest ≡ if-allowed kind s (some (mark-of k))
       mark-inside h = mark-is ∙ ap (if-allowed kind s) (found-inside marks k EN h)
 
       refuses-mark : mark-at kind s rest ≡ none → Steps kind bytes s (Refused (refusal 2 (s .index)))
       unfolding Steps
       refuses-mark e = (turns.frame-unmarked kind s rest (omega (arith, length-drop (s .offset) bytes)) e, refl)
 
-      pub no-mark : k ≡ 6 → Steps kind bytes s (Refused (refusal 2 (s .index)))
+      pub no-mark : k ≡ mark-count → Steps kind bytes s (Refused (refusal 2 (s .index)))
       no-mark e = refuses-mark (mark-is ∙ ap (λ (i : ℕ). if-allowed kind s (found-at i)) e)
 
-      pub not-allowed : k < 6 → allowed-at kind (s .rank) k ≡ false → Steps kind bytes s (Refused (refusal 2 (s .index)))
+      pub not-allowed : k < mark-count → allowed-at kind (s .rank) k ≡ false → Steps kind bytes s (Refused (refusal 2 (s .index)))
       not-allowed h e = refuses-mark (mark-inside h ∙ rw (e, if-allowed))
 
     module _ (m : MarkedAt kind bytes s k) where

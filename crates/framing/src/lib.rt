@@ -4,6 +4,7 @@ use images::EN;
 use images::END_SIZE;
 use images::HEAD_SIZE;
 use images::ID;
+use images::MARKS;
 use images::PV;
 use images::ROWS;
 use images::TASK_SIZE;
@@ -17,9 +18,9 @@ use images::row_of;
 use images::size_of;
 use images::task_body;
 use rules::Layout;
+use rules::NO_TASK;
 use rules::Place;
 use rules::Refusal;
-use rules::Task;
 use rules::TaskSet;
 ghost use mathlib.Core.Path.{_≡_};
 ghost use Prim.Native.Nat.{_<_, _≤_};
@@ -42,7 +43,7 @@ const END_BODY: usize = ROWS[EN].body;
 
 // Does an image of a kind have a mark?
 fn in_kind(kind: u32, k: usize) -> bool
-    requires { ⌜ k < 6 ⌝ }
+    requires { ⌜ k < book-marks.mark-count ⌝ }
     ensures { λ r. ⌜ r ≡ kind-at kind k ⌝ }
 {
     let r = row_of(k);
@@ -54,7 +55,7 @@ fn in_kind(kind: u32, k: usize) -> bool
 
 // May a mark stand in an image of a kind where no rank below the least may?
 fn allowed(kind: u32, least: usize, k: usize) -> bool
-    requires { ⌜ k < 6 ⌝ }
+    requires { ⌜ k < book-marks.mark-count ⌝ }
     ensures { λ r. ⌜ r ≡ allowed-at kind least k ⌝ }
 {
     if !in_kind(kind, k) {
@@ -133,7 +134,7 @@ fn after_task(image: &[u8], kind: u32, s: Place) -> Step
 }
 
 // Past so many records with one mark between the tasks and EN, with what is counted then.
-fn past(s: Place, k: usize, count: usize, listed: usize, inversions: usize) -> Place
+pub fn past(s: Place, k: usize, count: usize, listed: usize, inversions: usize) -> Place
     requires { ⌜ Room s (mark-of k) count ⌝ }
     ensures { λ r. ⌜ r ≡ behind-run (mark-of k) s count listed inversions ⌝ }
 {
@@ -201,7 +202,7 @@ fn step_at(image: &[u8], kind: u32, s: Place) -> Step
         return refuses(1, s.index);
     }
     let k = mark(image[at], image[at + 1]);
-    if 6 <= k {
+    if MARKS <= k {
         return refuses(2, s.index);
     }
     if !allowed(kind, s.rank, k) {
@@ -355,12 +356,7 @@ pub fn read_set(image: &[u8], n: usize) -> TaskSet
     requires inside { ⌜ book-marks.head-length-of n ≤ length (now image) ⌝ }
     ensures { λ r. ⌜ r ≡ set-read n (now (image .entry)) ⌝ }
 {
-    let mut tasks = [Task {
-        offset: 0,
-        time: 0,
-        period: 0,
-        deadline: 0,
-    }; 16];
+    let mut tasks = [NO_TASK; 16];
     let mut at = HEAD_SIZE;
     let mut i: usize = 0;
     while i < n {

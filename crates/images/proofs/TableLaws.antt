@@ -11,7 +11,7 @@ use lib.Dec.{eqb, leb}
 use lib.ListN.{length, getD, getElem?, drop, length-drop}
 use lib.Seq.{getD-drop}
 use Rattle.rules.specs.Tasks.{both}
-use Rattle.rules.specs.Marks.{Mark, TS, TK, SL, ID, PV, EN, Class, head-class, task-class, option-class, listed-class, inversion-class, end-class, row, marks, size, body-length, mark-in}
+use Rattle.rules.specs.Marks.{mark-count, Mark, TS, TK, SL, ID, PV, EN, Class, head-class, task-class, option-class, listed-class, inversion-class, end-class, row, marks, size, mark-in}
 use Rattle.rules.proofs.Cases.{by-eq, both-true}
 use Rattle.rules.proofs.Marked.{mark-bytes}
 use Rattle.images.specs.declared.Class.{Class as CodeClass}
@@ -88,7 +88,7 @@ later (m ∷ ms) zero a b h n =
 later (m ∷ ms) (suc k) a b h n = later ms k a b (omega arith) n
 
 -- the search in the code's table, with the row that was read
-module _ (k a b : ℕ) (r : Row) (h : k < 6) (read : r ≡ code-row (mark-of k)) where
+module _ (k a b : ℕ) (r : Row) (h : k < mark-count) (read : r ≡ code-row (mark-of k)) where
   pub mark-here : r .first ≡ a → r .second ≡ b → found-at k ≡ mark-in (drop k marks) a b
   mark-here p q = sym (here marks k a b h (rw read at p) (rw read at q))
 

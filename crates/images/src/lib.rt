@@ -48,7 +48,10 @@ pub const PV: usize = 4;
 
 pub const EN: usize = 5;
 
-pub const ROWS: [Row; 6] = [
+// So many there are.
+pub const MARKS: usize = 6;
+
+pub const ROWS: [Row; MARKS] = [
     Row {
         first: 0x54,
         second: 0x53,
@@ -180,13 +183,13 @@ pub fn head_length(n: usize) -> usize
     HEAD_SIZE + n * TASK_SIZE
 }
 
-// The place in the table of the mark that two bytes are, 6 where they are none.
+// The place in the table of the mark that two bytes are, MARKS where they are none.
 pub fn mark(a: u8, b: u8) -> usize
-    ensures row { λ r. ⌜ r ≤ 6 ⌝ }
+    ensures row { λ r. ⌜ r ≤ book-marks.mark-count ⌝ }
     ensures found { λ r. ⌜ found-at r ≡ book-marks.mark-in book-marks.marks a b ⌝ }
 {
     let mut k: usize = 0;
-    while k < 6 {
+    while k < MARKS {
         let r = row_of(k);
         if r.first == a {
             if r.second == b {
@@ -195,7 +198,7 @@ pub fn mark(a: u8, b: u8) -> usize
         }
         k += 1;
     }
-    6
+    MARKS
 }
 
 // Two bytes as one number, so that a mark is told by one comparison.

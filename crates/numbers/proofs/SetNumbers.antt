@@ -8,7 +8,7 @@ use lib.Seq.{sets}
 use Rattle.rules.specs.declared.Task.{Task}
 use Rattle.rules.specs.declared.TaskSet.{TaskSet}
 use Rattle.rules.specs.Tasks.{limits}
-use Rattle.rules.specs.Dispatcher.{task-numbers}
+use Rattle.rules.specs.Dispatcher.{numbers-a-task, task-numbers}
 use Rattle.rules.proofs.PossibleStates.{four-each}
 use Rattle.numbers.specs.Numbers.{task-from, set-from}
 use Rattle.numbers.proofs.FilledSlots.{sixteen, in-slot}
@@ -17,12 +17,12 @@ use Rattle.numbers.proofs.StateNumbers.{tasks-then, same-tasks}
 
 -- a set has sixteen slots
 pub sixteen-tasks : (n : ℕ) (lent : List ℕ) (at : ℕ) → length (set-from n lent at .tasks) ≡ limits .tasks
-sixteen-tasks n lent at = sixteen (λ (k : ℕ). task-from lent (at + 4 * k))
+sixteen-tasks n lent at = sixteen (λ (k : ℕ). task-from lent (at + numbers-a-task * k))
 
 -- a set's slot holds the task that its four numbers are
 pub task-in : (n : ℕ) (lent : List ℕ) (at : ℕ) (empty : Task) (i : ℕ) → i < limits .tasks →
-    task-from lent (at + 4 * i) ≡ getD (set-from n lent at .tasks) i empty
-task-in n lent at empty i l = sym (in-slot (λ (k : ℕ). task-from lent (at + 4 * k)) empty i l)
+    task-from lent (at + numbers-a-task * i) ≡ getD (set-from n lent at .tasks) i empty
+task-in n lent at empty i l = sym (in-slot (λ (k : ℕ). task-from lent (at + numbers-a-task * k)) empty i l)
 
 -- the set that its stored tasks are, with its n: that set
 pub set-of-stored : (s : TaskSet) (old : List ℕ) → length (s .tasks) ≡ limits .tasks → length old ≡ 64 →

@@ -7,8 +7,8 @@ use lib.ListN.{length, drop, drop-of-length-le}
 use lib.Seq.{drop-cons}
 use Rattle.rules.specs.declared.Task.{Task}
 use Rattle.rules.specs.declared.Dispatcher.{Dispatcher as State}
-use Rattle.rules.specs.Dispatcher.{task-numbers, numbers, Shaped, number-count}
-use Rattle.rules.specs.Dispatcher.{next-at, cycle-at, task-at, job-at, start-at, idle-at, inversions-at, first-idle-at, first-inversions-at}
+use Rattle.rules.specs.Dispatcher.{numbers-a-task, task-numbers, numbers, Shaped, number-count}
+use Rattle.rules.specs.Dispatcher.{next-position, cycle-position, task-position, job-position, start-position, idle-position, inversions-position, first-idle-position, first-inversions-position}
 use Rattle.rules.proofs.PossibleStates.{four-each, count-numbers}
 use Rattle.rules.proofs.Cases.{clash}
 use Rattle.numbers.specs.Numbers.{slots-from, number-at, task-from, numbers-from, state-from}
@@ -30,8 +30,8 @@ module _ (lent : List ℕ) where
       ∙ number-then from (omega arith))
 
   -- so many tasks from a place on, and what is behind their numbers
-  pub tasks-then : (at i many from behind : ℕ) → from ≡ at + 4 * i → behind ≡ from + 4 * many → behind ≤ length lent →
-      task-numbers (slots-from (λ (k : ℕ). task-from lent (at + 4 * k)) i many) ++ drop behind lent ≡ drop from lent
+  pub tasks-then : (at i many from behind : ℕ) → from ≡ at + numbers-a-task * i → behind ≡ from + numbers-a-task * many → behind ≤ length lent →
+      task-numbers (slots-from (λ (k : ℕ). task-from lent (at + numbers-a-task * k)) i many) ++ drop behind lent ≡ drop from lent
   unfolding slots-from
   tasks-then at i zero from behind e f l = let here : behind ≡ from = omega arith in rw here
   tasks-then at i (suc many) from behind e f l =
@@ -54,27 +54,27 @@ module _ (lent : List ℕ) where
   pub numbers-of-state : length lent ≡ number-count → numbers (state-from lent) ≡ lent
   numbers-of-state long =
       let tasks = task-numbers (state-from lent .set .tasks) in
-      let next = numbers-from lent next-at in
-      let now = numbers-from lent inversions-at in
-      let first = numbers-from lent first-inversions-at in
+      let next = numbers-from lent next-position in
+      let now = numbers-from lent inversions-position in
+      let first = numbers-from lent first-inversions-position in
       let none : drop number-count lent ≡ [] = drop-of-length-le lent {i = number-count} (omega arith) in
-      let from-first : first ≡ drop first-inversions-at lent =
-      sym (append-nil first) ∙ ap (λ (x : List ℕ). first ++ x) (sym none) ∙ sixteen-then first-inversions-at number-count refl (omega arith) in
-      let from-now : now ++ (number-at lent first-idle-at ∷ first) ≡ drop inversions-at lent =
-      ap (λ (x : List ℕ). now ++ (number-at lent first-idle-at ∷ x)) from-first
-      ∙ ap (λ (x : List ℕ). now ++ x) (number-then first-idle-at (omega arith))
-      ∙ sixteen-then inversions-at first-idle-at refl (omega arith) in
-      let running : List ℕ → List ℕ = λ (x : List ℕ). number-at lent cycle-at ∷ number-at lent task-at ∷ number-at lent job-at ∷ number-at lent start-at ∷ x in
-      let from-cycle : running (number-at lent idle-at ∷ (now ++ (number-at lent first-idle-at ∷ first))) ≡ drop cycle-at lent =
-      ap (λ (x : List ℕ). running (number-at lent idle-at ∷ x)) from-now
-      ∙ ap running (number-then idle-at (omega arith))
-      ∙ ap (λ (x : List ℕ). number-at lent cycle-at ∷ number-at lent task-at ∷ number-at lent job-at ∷ x) (number-then start-at (omega arith))
-      ∙ ap (λ (x : List ℕ). number-at lent cycle-at ∷ number-at lent task-at ∷ x) (number-then job-at (omega arith))
-      ∙ ap (λ (x : List ℕ). number-at lent cycle-at ∷ x) (number-then task-at (omega arith))
-      ∙ number-then cycle-at (omega arith) in
+      let from-first : first ≡ drop first-inversions-position lent =
+      sym (append-nil first) ∙ ap (λ (x : List ℕ). first ++ x) (sym none) ∙ sixteen-then first-inversions-position number-count refl (omega arith) in
+      let from-now : now ++ (number-at lent first-idle-position ∷ first) ≡ drop inversions-position lent =
+      ap (λ (x : List ℕ). now ++ (number-at lent first-idle-position ∷ x)) from-first
+      ∙ ap (λ (x : List ℕ). now ++ x) (number-then first-idle-position (omega arith))
+      ∙ sixteen-then inversions-position first-idle-position refl (omega arith) in
+      let running : List ℕ → List ℕ = λ (x : List ℕ). number-at lent cycle-position ∷ number-at lent task-position ∷ number-at lent job-position ∷ number-at lent start-position ∷ x in
+      let from-cycle : running (number-at lent idle-position ∷ (now ++ (number-at lent first-idle-position ∷ first))) ≡ drop cycle-position lent =
+      ap (λ (x : List ℕ). running (number-at lent idle-position ∷ x)) from-now
+      ∙ ap running (number-then idle-position (omega arith))
+      ∙ ap (λ (x : List ℕ). number-at lent cycle-position ∷ number-at lent task-position ∷ number-at lent job-position ∷ x) (number-then start-position (omega arith))
+      ∙ ap (λ (x : List ℕ). number-at lent cycle-position ∷ number-at lent task-position ∷ x) (number-then job-position (omega arith))
+      ∙ ap (λ (x : List ℕ). number-at lent cycle-position ∷ x) (number-then task-position (omega arith))
+      ∙ number-then cycle-position (omega arith) in
       ap (λ (x : List ℕ). number-at lent 0 ∷ (tasks ++ (next ++ x))) from-cycle
-      ∙ ap (λ (x : List ℕ). number-at lent 0 ∷ (tasks ++ x)) (sixteen-then next-at cycle-at refl (omega arith))
-      ∙ ap (λ (x : List ℕ). number-at lent 0 ∷ x) (tasks-then 1 0 16 1 next-at refl refl (omega arith))
+      ∙ ap (λ (x : List ℕ). number-at lent 0 ∷ (tasks ++ x)) (sixteen-then next-position cycle-position refl (omega arith))
+      ∙ ap (λ (x : List ℕ). number-at lent 0 ∷ x) (tasks-then 1 0 16 1 next-position refl refl (omega arith))
       ∙ number-then 0 (omega arith)
 
   -- that state has sixteen slots in each of its lists

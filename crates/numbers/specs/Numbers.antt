@@ -7,7 +7,7 @@ use Rattle.rules.specs.declared.TaskSet.{TaskSet}
 use Rattle.rules.specs.declared.Offsets.{Offsets}
 use Rattle.rules.specs.declared.Dispatcher.{Dispatcher as State}
 use Rattle.rules.specs.Tasks.{limits}
-use Rattle.rules.specs.Dispatcher.{next-at, cycle-at, task-at, job-at, start-at, idle-at, first-idle-at}
+use Rattle.rules.specs.Dispatcher.{numbers-a-task, next-position, cycle-position, task-position, job-position, start-position, idle-position, first-idle-position}
 
 -- so many slots from the i-th on, each with its value
 unfoldable pub slots-from : {A : Type 0} → (ℕ → A) → ℕ → ℕ → List A
@@ -29,7 +29,7 @@ task-from lent at =
 
 -- a set of n tasks in the first of its slots, which the numbers from a place on fill
 abbrev pub set-from : ℕ → List ℕ → ℕ → TaskSet
-set-from n lent at = record { n = n; tasks = slots (λ (i : ℕ). task-from lent (at + 4 * i)) }
+set-from n lent at = record { n = n; tasks = slots (λ (i : ℕ). task-from lent (at + numbers-a-task * i)) }
 
 -- the tasks of a set of n tasks, which the numbers from a place on fill
 abbrev pub tasks-from : ℕ → List ℕ → ℕ → List Task
@@ -47,9 +47,9 @@ offsets-from lent at = record { idle = number-at lent at; inversions = numbers-f
 abbrev pub state-from : List ℕ → State
 state-from lent = record {
   set = set-from (number-at lent 0) lent 1;
-  next = numbers-from lent next-at;
-  cycle = number-at lent cycle-at;
-  running = record { task = number-at lent task-at; job = number-at lent job-at; start = number-at lent start-at };
-  now = offsets-from lent idle-at;
-  first = offsets-from lent first-idle-at;
+  next = numbers-from lent next-position;
+  cycle = number-at lent cycle-position;
+  running = record { task = number-at lent task-position; job = number-at lent job-position; start = number-at lent start-position };
+  now = offsets-from lent idle-position;
+  first = offsets-from lent first-idle-position;
 }

@@ -1,5 +1,6 @@
 // Numbers in memory: a set's and a dispatcher's state's. What they stand for, and how they are stored.
 use rules::Dispatcher;
+use rules::NO_TASK;
 use rules::Offsets;
 use rules::Running;
 use rules::Task;
@@ -12,9 +13,11 @@ ghost use lib.Seq.{sets};
 ghost use Rattle.rules.specs.Dispatcher as book;
 ghost use Rattle.numbers.specs.Numbers.{task-from, set-from, numbers-from, offsets-from, state-from};
 
-// A set is n and four numbers for each of sixteen tasks. A state begins with its set; behind it, one part behind the other, stand the next job numbers, the
-// cycle, the running job, and the offsets, those as they stand and those as at a cycle's start.
-pub const SET_NUMBERS: usize = 65;
+// A set is n and so many numbers for each of sixteen tasks. A state begins with its set; behind it, one part behind the other, stand the next job numbers,
+// the cycle, the running job, and the offsets, those as they stand and those as at a cycle's start.
+pub const TASK_NUMBERS: usize = 4;
+
+pub const SET_NUMBERS: usize = 1 + TASK_NUMBERS * 16;
 
 pub const NEXT: usize = SET_NUMBERS;
 
@@ -54,15 +57,10 @@ fn set_from(n: u32, numbers: &[u32], at: usize) -> TaskSet
     requires { ⌜ at + 64 ≤ length (now numbers) ⌝ }
     ensures { λ r. ⌜ r ≡ set-from n (now (numbers .entry)) at ⌝ }
 {
-    let mut tasks = [Task {
-        offset: 0,
-        time: 0,
-        period: 0,
-        deadline: 0,
-    }; 16];
+    let mut tasks = [NO_TASK; 16];
     let mut i: usize = 0;
     while i < 16 {
-        tasks[i] = task_from(numbers, at + 4 * i);
+        tasks[i] = task_from(numbers, at + TASK_NUMBERS * i);
         i += 1;
     }
     TaskSet { n, tasks }
@@ -134,7 +132,7 @@ pub fn put_tasks(numbers: &mut [u32], at: usize, s: TaskSet)
 {
     let mut k: usize = 0;
     while k < 16 {
-        put_task(numbers, at + 4 * k, s.tasks[k]);
+        put_task(numbers, at + TASK_NUMBERS * k, s.tasks[k]);
         k += 1;
     }
 }

@@ -5,7 +5,6 @@ use Prim.Native.Nat.{ℕ, _+_, _*_, _≤_, _<_}
 use native.Mathlib.Omega.{arith}
 use lib.ListN.{length, length-map}
 use borrow.Author.Tests.{le-leb, lt-leb}
-use Rattle.rules.specs.declared.TaskSet.{TaskSet}
 use Rattle.rules.specs.declared.Entry.{Entry}
 use Rattle.rules.specs.declared.Offsets.{Offsets}
 use Rattle.rules.specs.declared.Refusal.{Refusal}
@@ -19,7 +18,6 @@ use Rattle.rules.proofs.GoodSets.{set-good}
 use Rattle.rules.proofs.ValidTimetables.{no-fault-valid, valid-length}
 use Rattle.rules.proofs.Images.{records-length, timetable-image-length}
 use Rattle.rules.proofs.AcceptedTables.{its-tables}
-use Rattle.rules.proofs.Arrays.{memory-many}
 use Rattle.sets.specs.Kept.{Rows, all-jobs-in, hyperperiod-in, Keeps}
 use Rattle.tables.specs.declared.Tables.{Tables as Judgement}
 use Rattle.tables.specs.Judged.{Good}
@@ -34,17 +32,14 @@ unfolding rebuild rebuild-output
 refused-so bytes old r e = record { answer = rw e; output = rw e }
 
 -- behind the tables of an image that is not refused there is a timetable
-pub behind-good : {bytes : List ℕ} {t : Judgement} {kept : Rows} (g : Good bytes t kept) → TimetableBehind bytes (t .set) (t .first) (g .entries)
-behind-good g = record { tables = g .tables; few = g .few; read = g .read; judged = g .judged; offsets = g .offsets }
+pub behind-good : {bytes : List ℕ} {t : Judgement} {kept : Rows} (g : Good bytes t kept) → TimetableBehind bytes (memory-set (t .set)) (t .first) (g .entries)
+behind-good g = record { tables = g .tables; read = g .read; judged = g .judged; offsets = g .offsets }
 
 -- the bytes of entries are as long as so many SL records
 pub entries-length : (τ : List Entry) → length (entries-bytes τ) ≡ length τ * size SL
 entries-length τ = records-length SL (map of-entry τ) ∙ ap (λ (n : ℕ). n * size SL) (length-map τ of-entry)
 
-module _ (bytes : List ℕ) (s : TaskSet) (first-at : Offsets) (τ : List Entry) (g : TimetableBehind bytes s first-at τ) where
-  abbrev ts : Set
-  ts = memory-set s
-
+module _ (bytes : List ℕ) (ts : Set) (first-at : Offsets) (τ : List Entry) (g : TimetableBehind bytes ts first-at τ) where
   -- the timetable has as many entries as a cycle has jobs
   pub as-many-entries : length τ ≡ all-jobs (hyperperiod ts) ts
   as-many-entries = valid-length (no-fault-valid ts τ .0 (its-tables ts (g .tables) τ (g .judged) .0))
@@ -57,13 +52,10 @@ module _ (bytes : List ℕ) (s : TaskSet) (first-at : Offsets) (τ : List Entry)
   image-given : (room : ℕ) → rebuilt-image room bytes ≡ into room (timetable-image ts τ)
   image-given room = rw (g .read, g .judged)
 
-  module _ (slots : length (s .tasks) ≡ 16) (starts : ℕ) (starts-are : starts ≡ all-jobs (hyperperiod ts) ts) where
-    tasks-many : length (ts .tasks) ≡ s .n
-    tasks-many = memory-many s (omega (arith, g .few))
-
+  module _ (tasks : ℕ) (tasks-many : length (ts .tasks) ≡ tasks) (starts : ℕ) (starts-are : starts ≡ all-jobs (hyperperiod ts) ts) where
     -- how long the image of the timetable is
     abbrev long : ℕ
-    long = head-length-of (s .n) + starts * size SL + size EN
+    long = head-length-of tasks + starts * size SL + size EN
 
     image-long : length (timetable-image ts τ) ≡ long
     image-long = timetable-image-length ts τ ∙ omega (arith, tasks-many, as-many-entries)
@@ -89,9 +81,9 @@ module _ (bytes : List ℕ) (s : TaskSet) (first-at : Offsets) (τ : List Entry)
       -- and the set, the entries and EN put one behind the other are the image at the front of the output, with all other bytes as they were
       pub put-out : (set-put entries-in end-put : List ℕ) (end before : ℕ) →
           set-put ≡ put-at old 0 (image (head-records 1 ts)) →
-          entries-in ≡ entries-put set-put (s .n) τ →
+          entries-in ≡ entries-put set-put tasks τ →
           end-put ≡ record-put entries-in end (record-of EN (before ∷ [])) →
-          end + size EN ≡ n → before ≡ head-count-of (s .n) + starts → end-put ≡ rebuild-output bytes old
+          end + size EN ≡ n → before ≡ head-count-of tasks + starts → end-put ≡ rebuild-output bytes old
       unfolding rebuild-output
       put-out set-put entries-in end-put end before first-put second third end-is before-is =
           let here : end ≡ head-length-of (length (ts .tasks)) + length (entries-bytes τ) =

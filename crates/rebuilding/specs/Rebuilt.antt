@@ -3,27 +3,25 @@ use mathlib.Core.Path.{_≡_}
 use mathlib.Core.List.{List, map}
 use Prim.Native.Nat.{ℕ, _+_, _*_, _≤_}
 use lib.ListN.{length}
-use Rattle.rules.specs.declared.TaskSet.{TaskSet}
 use Rattle.rules.specs.declared.Entry.{Entry}
 use Rattle.rules.specs.declared.Offsets.{Offsets}
 use Rattle.rules.specs.Refusals.{gives}
-use Rattle.rules.specs.Tasks.{limits, memory-set}
+use Rattle.rules.specs.Tasks.{Set}
 use Rattle.rules.specs.Setting.{Tables}
 use Rattle.rules.specs.Judging.{judge-tables}
 use Rattle.rules.specs.Marks.{SL, size, head-length-of}
 use Rattle.rules.specs.Image.{image, records, of-entry}
 use Rattle.rules.specs.Offsets.{first-offsets}
 use Rattle.rules.specs.Operations.{read-tables}
-use Rattle.sets.specs.Kept.{Rows, Keeps}
+use Rattle.sets.specs.Kept.{Rows, tasks-in, Keeps}
 use Rattle.writing.specs.Writing.{put-at}
 
 -- an accepted image: its set, its tables with the offsets as at a cycle's start, and the timetable behind them
-pub record TimetableBehind (bytes : List ℕ) (s : TaskSet) (first : Offsets) (τ : List Entry) : Type 0 where
+pub record TimetableBehind (bytes : List ℕ) (ts : Set) (first : Offsets) (τ : List Entry) : Type 0 where
   pub tables : Tables
-  pub few : s .n ≤ limits .tasks
-  pub read : read-tables bytes ≡ gives (record { set = memory-set s; tables = tables })
-  pub judged : judge-tables (memory-set s) tables ≡ gives τ
-  pub offsets : first ≡ first-offsets (memory-set s) tables
+  pub read : read-tables bytes ≡ gives (record { set = ts; tables = tables })
+  pub judged : judge-tables ts tables ≡ gives τ
+  pub offsets : first ≡ first-offsets ts tables
 
 -- the bytes of entries
 abbrev pub entries-bytes : List Entry → List ℕ
@@ -34,8 +32,8 @@ abbrev pub entries-put : List ℕ → ℕ → List Entry → List ℕ
 entries-put old n τ = put-at old (head-length-of n) (entries-bytes τ)
 
 -- an accepted image, what is kept of its set, and room for the entries of its timetable behind the tasks
-pub record CanPut (bytes : List ℕ) (s : TaskSet) (kept : Rows) (first : Offsets) (out : List ℕ) : Type 0 where
+pub record CanPut (ts : Set) (bytes : List ℕ) (kept : Rows) (first : Offsets) (out : List ℕ) : Type 0 where
   pub entries : List Entry
-  pub behind : TimetableBehind bytes s first entries
-  pub keeps : Keeps (memory-set s) kept
-  pub room : head-length-of (s .n) + length entries * size SL ≤ length out
+  pub behind : TimetableBehind bytes ts first entries
+  pub keeps : Keeps ts kept
+  pub room : head-length-of (tasks-in kept) + length entries * size SL ≤ length out

@@ -16,7 +16,6 @@ use sets::JOBS;
 use sets::SLACK;
 use sets::TASKS;
 ghost use mathlib.Core.Path.{_≡_};
-ghost use mathlib.Core.List.{List};
 ghost use Prim.Native.Nat.{ℕ, _+_, _≤_};
 ghost use lib.ListN.{length};
 ghost use Rattle.rules.specs.Tasks as book;
@@ -42,7 +41,7 @@ pub fn idle_keeps(h: u32, r: Idle) -> bool
 }
 
 // A PV's own rule: task below n, job below H/T, delay at most D − C.
-pub fn inversion_keeps(kept: &[[u32; 16]; 5], r: Inversion) -> bool
+pub fn inversion_keeps(kept: &[[u32; 16]; 6], r: Inversion) -> bool
     requires { ⌜ tasks-in (now kept) ≤ 16 ⌝ }
     ensures { λ b. ⌜ ((ts : book.Set) → Keeps ts (now (kept .entry)) →
         b ≡ book-judging.inversion-in-range ts (hyperperiod-in (now (kept .entry))) r) ⌝ }
@@ -75,7 +74,7 @@ fn inversion_at(image: &[u8], at: usize) -> Inversion
 }
 
 // ID records in turn, left from inside with the first that is out of its range or not above the end of the one before. Number 0 where nothing is wrong.
-fn idles_fault(image: &[u8], kept: &[[u32; 16]; 5], idles: usize) -> Refusal
+fn idles_fault(image: &[u8], kept: &[[u32; 16]; 6], idles: usize) -> Refusal
     requires { ⌜ ((inversions : ℕ) × CanJudge (now image) (now kept) idles inversions) ⌝ }
     ensures { λ r. ⌜ IdlesTold (now (image .entry)) (now (kept .entry)) idles r ⌝ }
 {
@@ -116,7 +115,7 @@ fn at_most(i: u32, k: u32, j: u32, l: u32) -> bool
 }
 
 // PV records in turn, left from inside with the first that is out of its range or whose pair (task, job) is not above the one before.
-fn inversions_fault(image: &[u8], kept: &[[u32; 16]; 5], idles: usize, inversions: usize) -> Refusal
+fn inversions_fault(image: &[u8], kept: &[[u32; 16]; 6], idles: usize, inversions: usize) -> Refusal
     requires { ⌜ CanJudge (now image) (now kept) idles inversions ⌝ }
     ensures { λ r. ⌜ InversionsTold (now (image .entry)) (now (kept .entry)) idles inversions r ⌝ }
 {
@@ -150,7 +149,7 @@ fn inversions_fault(image: &[u8], kept: &[[u32; 16]; 5], idles: usize, inversion
 // 17: ID records, then PV records. Number 0 where nothing is wrong.
 pub fn records_fault(
     image: &[u8],
-    kept: &[[u32; 16]; 5],
+    kept: &[[u32; 16]; 6],
     idles: usize,
     inversions: usize,
 ) -> Refusal

@@ -8,16 +8,14 @@ use Prim.Native.Nat.{ℕ, zero, suc, _+_, _-_, min, _≤_, _<_}
 use native.Mathlib.Omega.{arith}
 use lib.Dec.{eqb}
 use lib.Seq.{append-snoc}
-use lib.ListN.{length, getD, set, replicate, length-append, length-map, length-take}
+use lib.ListN.{length, getD, set, length-append}
 use borrow.Author.Tests.{lt-ltb, le-ltb, eq-eqb, ne-eqb}
 use Rattle.fields.specs.Number.{Bytes}
-use Rattle.rules.specs.declared.Task.{Task}
-use Rattle.rules.specs.declared.TaskSet.{TaskSet}
 use Rattle.rules.specs.declared.Entry.{Entry}
 use Rattle.rules.specs.declared.Idle.{Idle}
 use Rattle.rules.specs.declared.Offsets.{Offsets as OffsetsOf}
 use Rattle.rules.specs.Refusals.{refuses, refusal}
-use Rattle.rules.specs.Tasks.{Set, limits, task, release, all-jobs, hyperperiod, set-fault, memory-set}
+use Rattle.rules.specs.Tasks.{Set, task, all-jobs, hyperperiod, set-fault}
 use Rattle.rules.specs.Setting.{Tables}
 use Rattle.rules.specs.Priority.{slot, start-job, all-started, setting}
 use Rattle.rules.specs.Irregularities.{runs}
@@ -27,7 +25,7 @@ use Rattle.rules.specs.Dispatcher.{zeros}
 use Rattle.rules.proofs.Cases.{by-bool, by-eq, by-le, clash}
 use Rattle.rules.proofs.Arrays.{slot-element}
 use Rattle.rules.proofs.GoodSets.{a-job}
-use Rattle.rules.proofs.PriorityLaws.{slot-empty, never-waits}
+use Rattle.rules.proofs.PriorityLaws.{never-waits}
 use Rattle.rules.proofs.Images.{records-before}
 use Rattle.rules.proofs.Shown.{ShowsIdles, no-idle, an-idle}
 use Rattle.rules.proofs.ShownAt.{Stand}
@@ -35,16 +33,16 @@ use Rattle.rules.proofs.StandingTables.{read-stand}
 use Rattle.rules.proofs.StuckStarts.{by-next}
 use Rattle.rules.proofs.OffsetReplay.{ReplaysAt, zeros-same}
 use Rattle.rules.proofs.WastedRecords.{Wastes, wastes-begin, start-wastes, start-inverts, start-without, judged-late}
-use Rattle.rules.proofs.KeptOffsets.{Keeps, keeps-begin, keeps-along}
+use Rattle.rules.proofs.KeptOffsets.{KeepsIdles, keeps-begin, keeps-along}
 use Rattle.decision.specs.declared.Found.{Found}
 use Rattle.decision.specs.declared.NextStart.{NextStart as Answer}
 use Rattle.decision.specs.declared.NextStart.the-variants.{Starts, Stuck}
-use Rattle.sets.specs.Kept.{Rows, tasks-in, all-jobs-in}
-use Rattle.sets.proofs.SetKept.{in-slot}
-use Rattle.decision.specs.Fits.{free-in, idle-offset-in, next-in, offsets-in}
+use Rattle.sets.specs.Kept.{Rows, all-jobs-in}
+use Rattle.decision.specs.declared.Front.{Front}
+use Rattle.decision.specs.Fits.{next-in, offsets-in}
 use Rattle.decision.specs.Next.{inverts, next-case, next-of, next-at, IdlesRead, none-left, one-more, AllRead}
-use Rattle.decision.proofs.Fitting.{set-hyperperiod}
-use Rattle.replay.specs.Runs.{wasted-after, Ends, as-entry, start-first, wasted-by, behind, ends-of, AllReadIn, run-from, CanRun, CanReplay, first-releases, cycle-start, cycle-of}
+use Rattle.sets.proofs.SetKept.{kept-cycle}
+use Rattle.replay.specs.Runs.{wasted-after, Ends, as-entry, start-first, wasted-by, behind, front-behind, ends-of, AllReadIn, CanRun, CanReplay, cycle-start, cycle-front, cycle-of}
 use Rattle.replay.proofs.Stores.{start-stores}
 use Rattle.replay.proofs.Running.{ends-stuck, ends-last, ends-more}
 use Rattle.replay.proofs.Walk.{WalkAt, WalkGoesOn, walk-begins, walk-all, walk-left, walk-readable, walk-starts}
@@ -56,7 +54,7 @@ pub record CycleDone (bytes : List ℕ) (ts : Set) (X : Tables) (σ : List Entry
   pub free : ℕ
   pub offsets : List ℕ
   pub replays : ReplaysAt bytes ts X σ next free offsets idle
-  pub keeps : Keeps ts X σ next free idle idle
+  pub keeps : KeepsIdles ts X σ next free idle idle
   pub wastes : Wastes ts X σ next wasted
   pub all : all-started (hyperperiod ts) (ts .tasks) next ≡ true
 
@@ -118,8 +116,8 @@ module _ {bytes : List ℕ} {ts : Set} {X : Tables} {before : ℕ} (st : Stand b
       (λ m q. let other : Stuck m ≡ Starts f = rw q at e in clash (cc))
 
   -- the IDs used are the derived ones: the baseline never waits
-  keeps-on : Keeps ts X σ next free idle idle → (f : Found) → next-of ts bytes next free offsets idle ≡ Starts f →
-      Keeps ts X (σ ++ (as-entry f ∷ [])) (start-job next (f .task)) (f .start + task ts (f .task) .time) (f .idle) (f .idle)
+  keeps-on : KeepsIdles ts X σ next free idle idle → (f : Found) → next-of ts bytes next free offsets idle ≡ Starts f →
+      KeepsIdles ts X (σ ++ (as-entry f ∷ [])) (start-job next (f .task)) (f .start + task ts (f .task) .time) (f .idle) (f .idle)
   keeps-on K f e =
       by-next (next-start (setting ts) (lent bytes ts) (standing next free offsets idle))
       (λ i t o q.
@@ -136,9 +134,9 @@ module _ {bytes : List ℕ} {ts : Set} {X : Tables} {before : ℕ} (st : Stand b
       (λ m q. judged-late st good R left m q)
 
 -- where a run stands after some starts: the walk stands there, with these records wasted
-record PointAt (bytes : List ℕ) (ts : Set) (X : Tables) (kept : Rows) (σ : List Entry) (at : Rows) (wasted : ℕ) : Type 0 where
-  walk : WalkAt bytes ts X kept σ at
-  keeps : Keeps ts X σ (next-in at) (free-in at) (idle-offset-in at) (idle-offset-in at)
+record PointAt (bytes : List ℕ) (ts : Set) (X : Tables) (kept : Rows) (σ : List Entry) (at : Rows) (front : Front) (wasted : ℕ) : Type 0 where
+  walk : WalkAt bytes ts X kept σ at front
+  keeps : KeepsIdles ts X σ (next-in at) (front .free) (front .idle) (front .idle)
   wastes : Wastes ts X σ (next-in at) wasted
 
 -- what a run behind some starts comes to, with as many starts as jobs are left: the tables are refused, or all jobs have started
@@ -170,12 +168,8 @@ one-entry : (σ : List Entry) (f : Found) → length (σ ++ (as-entry f ∷ []))
 one-entry σ f = omega (arith, length-append σ (as-entry f ∷ []))
 
 -- an image that may be replayed
-module _ {bytes : List ℕ} {s : TaskSet} {kept : Rows} {first : OffsetsOf} (are-bytes : Bytes bytes) (slots : length (s .tasks) ≡ limits .tasks)
-    (can : CanReplay bytes s kept first) where
-  -- its tasks, its tables, and the jobs of its cycle
-  abbrev ts : Set
-  ts = memory-set s
-
+module _ {ts : Set} {bytes : List ℕ} {kept : Rows} {first : OffsetsOf} (are-bytes : Bytes bytes) (can : CanReplay ts bytes kept first) where
+  -- its tables, and the jobs of its cycle
   abbrev X : Tables
   X = can .tables
 
@@ -183,26 +177,19 @@ module _ {bytes : List ℕ} {s : TaskSet} {kept : Rows} {first : OffsetsOf} (are
   all = all-jobs (hyperperiod ts) ts
 
   -- its tables stand in it
-  pub cycle-stand : Stand bytes (memory-set s) (can .tables) (records-before (memory-set s) (can .tables))
+  pub cycle-stand : Stand bytes ts (can .tables) (records-before ts (can .tables))
   cycle-stand = read-stand bytes ts X are-bytes (can .read) (can .good) (can .records-good)
 
-  -- a task's slot among the first releases
-  release-in-slot : (i : ℕ) → i < tasks-in kept → slot (first-releases s) i ≡ release (task (memory-set s) i) (slot zeros i)
-  unfolding memory-set
-  release-in-slot i l =
-      let counted = length-take (s .n) (s .tasks) in
-      in-slot s (λ (t : Task). t .offset) i (omega (arith, can .keeps .n-tasks)) (omega (arith, can .keeps .n-tasks))
-      ∙ rw (zeros-same (suc i) i (omega arith), slot-empty i) (omega arith)
-
   -- after some starts
-  abbrev At : List Entry → Rows → ℕ → Type 0
-  At σ at wasted = PointAt bytes ts X kept σ at wasted
+  abbrev At : List Entry → Rows → Front → ℕ → Type 0
+  At σ at front wasted = PointAt bytes ts X kept σ at front wasted
 
   -- with all starts made, all jobs have started
-  point-done : {σ : List Entry} {at : Rows} {wasted : ℕ} → At σ at wasted → all ≤ length σ → CycleDone bytes ts X σ (idle-offset-in at) wasted
-  point-done {at = at} a enough = record {
+  point-done : {σ : List Entry} {at : Rows} {front : Front} {wasted : ℕ} → At σ at front wasted → all ≤ length σ →
+      CycleDone bytes ts X σ (front .idle) wasted
+  point-done {at = at} {front = front} a enough = record {
     next = next-in at;
-    free = free-in at;
+    free = front .free;
     offsets = offsets-in at;
     replays = a .walk .replays;
     keeps = a .keeps;
@@ -210,9 +197,9 @@ module _ {bytes : List ℕ} {s : TaskSet} {kept : Rows} {first : OffsetsOf} (are
     all = walk-all cycle-stand (a .walk) enough;
   }
 
-  module _ {σ : List Entry} {at : Rows} {wasted : ℕ} (a : At σ at wasted) where
+  module _ {σ : List Entry} {at : Rows} {front : Front} {wasted : ℕ} (a : At σ at front wasted) where
     -- all offsets can be read
-    point-read : AllRead bytes ts kept at
+    point-read : AllRead bytes ts kept at (front .idle)
     point-read = record { tasks-read = walk-readable cycle-stand (a .walk); idles-read = idles-come (a .walk .replays .idles-shown) }
 
     module _ (few : length σ < all) where
@@ -221,17 +208,17 @@ module _ {bytes : List ℕ} {s : TaskSet} {kept : Rows} {first : OffsetsOf} (are
       point-left = walk-left cycle-stand (a .walk) few
 
       -- the next start is stuck: 18 at the number of starts
-      point-stuck : (number : ℕ) → next-at ts bytes at ≡ Stuck number → judge-tables ts X ≡ refuses (refusal 18 (length σ))
+      point-stuck : (number : ℕ) → next-at ts bytes at front ≡ Stuck number → judge-tables ts X ≡ refuses (refusal 18 (length σ))
       point-stuck = late-here cycle-stand (can .good) (a .walk .replays) (a .wastes) point-left
 
       -- behind the next start
-      point-on : (f : Found) → next-at ts bytes at ≡ Starts f → At (σ ++ (as-entry f ∷ [])) (behind ts at f) (wasted-by at wasted f)
+      point-on : (f : Found) → next-at ts bytes at front ≡ Starts f → At (σ ++ (as-entry f ∷ [])) (behind ts at f) (front-behind ts f) (wasted-by at wasted f)
       point-on f e =
           let i : ℕ = f .task in
           let w = a .walk in
           let g : WalkGoesOn bytes ts X kept σ at f = walk-starts cycle-stand w point-left f e in
           let stored : set (next-in at) i (getD (next-in at) i 0 + 1) ≡ start-job (next-in at) i =
-          start-stores (next-in at) i (omega (arith, g .a-task, w .fits .set .few, w .slots .next)) in
+          start-stores (next-in at) i (omega (arith, g .a-task, w .stands .fits .set .few, w .slots .next)) in
           record {
             walk = g .goes-on;
             keeps = rw stored (keeps-on cycle-stand (can .good) (w .replays) (a .wastes) point-left (a .keeps) f e);
@@ -239,92 +226,78 @@ module _ {bytes : List ℕ} {s : TaskSet} {kept : Rows} {first : OffsetsOf} (are
           }
 
       -- what one start comes to, where one job is left
-      ends-here : all ≤ suc (length σ) → EndsSo bytes ts X σ (ends-of ts bytes zero at wasted)
+      ends-here : all ≤ suc (length σ) → EndsSo bytes ts X σ (ends-of ts bytes zero at front wasted)
       ends-here last =
-          by-answer (next-at ts bytes at)
-          (λ f q. rw (ends-last ts bytes at wasted f q) (done-so f (point-done (point-on f q) (omega (arith, one-entry σ f)))))
-          (λ m q. rw (ends-stuck ts bytes at wasted zero m q) (stuck-so wasted m (point-stuck m q)))
+          by-answer (next-at ts bytes at front)
+          (λ f q. rw (ends-last ts bytes at front wasted f q) (done-so f (point-done (point-on f q) (omega (arith, one-entry σ f)))))
+          (λ m q. rw (ends-stuck ts bytes at front wasted zero m q) (stuck-so wasted m (point-stuck m q)))
 
       -- and what more come to
       ends-on : (more : ℕ) →
-          ((f : Found) → next-at ts bytes at ≡ Starts f →
-          EndsSo bytes ts X (σ ++ (as-entry f ∷ [])) (ends-of ts bytes more (behind ts at f) (wasted-by at wasted f))) →
-          EndsSo bytes ts X σ (ends-of ts bytes (suc more) at wasted)
+          ((f : Found) → next-at ts bytes at front ≡ Starts f →
+          EndsSo bytes ts X (σ ++ (as-entry f ∷ [])) (ends-of ts bytes more (behind ts at f) (front-behind ts f) (wasted-by at wasted f))) →
+          EndsSo bytes ts X σ (ends-of ts bytes (suc more) at front wasted)
       ends-on more later =
-          by-answer (next-at ts bytes at)
-          (λ f q. rw (ends-more ts bytes at wasted more f q)
-          (more-so f (ends-of ts bytes more (behind ts at f) (wasted-by at wasted f)) (later f q)))
-          (λ m q. rw (ends-stuck ts bytes at wasted (suc more) m q) (stuck-so wasted m (point-stuck m q)))
+          by-answer (next-at ts bytes at front)
+          (λ f q. rw (ends-more ts bytes at front wasted more f q)
+          (more-so f (ends-of ts bytes more (behind ts at f) (front-behind ts f) (wasted-by at wasted f)) (later f q)))
+          (λ m q. rw (ends-stuck ts bytes at front wasted (suc more) m q) (stuck-so wasted m (point-stuck m q)))
 
   -- with as many starts to come as jobs are left, all offsets can be read at each of these decisions
-  run-read : (more : ℕ) (σ : List Entry) (at : Rows) (wasted : ℕ) → At σ at wasted → suc more + length σ ≡ all → AllReadIn ts bytes kept more at
+  run-read : (more : ℕ) (σ : List Entry) (at : Rows) (front : Front) (wasted : ℕ) → At σ at front wasted → suc more + length σ ≡ all →
+      AllReadIn ts bytes kept more at front
   unfolding AllReadIn
-  run-read zero σ at wasted a left = point-read a
-  run-read (suc more) σ at wasted a left = (
+  run-read zero σ at front wasted a left = point-read a
+  run-read (suc more) σ at front wasted a left = (
     point-read a,
     λ f e.
-        run-read more (σ ++ (as-entry f ∷ [])) (behind ts at f) (wasted-by at wasted f) (point-on a (omega arith) f e) (omega (arith, one-entry σ f)),
+        run-read more (σ ++ (as-entry f ∷ [])) (behind ts at f) (front-behind ts f) (wasted-by at wasted f) (point-on a (omega arith) f e) (omega (arith, one-entry σ f)),
   )
 
   -- what the run comes to
-  run-ends : (more : ℕ) (σ : List Entry) (at : Rows) (wasted : ℕ) → At σ at wasted → suc more + length σ ≡ all →
-      EndsSo bytes ts X σ (ends-of ts bytes more at wasted)
-  run-ends zero σ at wasted a left = ends-here a (omega arith) (omega arith)
-  run-ends (suc more) σ at wasted a left =
+  run-ends : (more : ℕ) (σ : List Entry) (at : Rows) (front : Front) (wasted : ℕ) → At σ at front wasted → suc more + length σ ≡ all →
+      EndsSo bytes ts X σ (ends-of ts bytes more at front wasted)
+  run-ends zero σ at front wasted a left = ends-here a (omega arith) (omega arith)
+  run-ends (suc more) σ at front wasted a left =
       ends-on a (omega arith) more
       (λ f q.
-      run-ends more (σ ++ (as-entry f ∷ [])) (behind ts at f) (wasted-by at wasted f) (point-on a (omega arith) f q) (omega (arith, one-entry σ f)))
+      run-ends more (σ ++ (as-entry f ∷ [])) (behind ts at f) (front-behind ts f) (wasted-by at wasted f) (point-on a (omega arith) f q) (omega (arith, one-entry σ f)))
 
   -- where the cycle begins
-  cycle-begins : At [] (cycle-start s first) last-offset
-  cycle-begins =
-      record {
-        walk = subst
-            (λ (o : OffsetsOf). WalkAt bytes ts X kept [] ((0 ∷ o .idle ∷ replicate 14 0) ∷ zeros ∷ first-releases s ∷ o .inversions ∷ []))
-            (sym (can .first-is))
-            (walk-begins cycle-stand (first-releases s) (can .keeps) (length-map (s .tasks) (λ (t : Task). t .offset) ∙ slots) release-in-slot);
-        keeps = subst (λ (o : OffsetsOf). Keeps ts X [] zeros 0 (o .idle) (o .idle)) (sym (can .first-is))
-            (keeps-begin cycle-stand (can .good) zeros (zeros-same (length (ts .tasks))));
-        wastes = wastes-begin cycle-stand (can .good) zeros (zeros-same (length (ts .tasks)));
-      }
+  cycle-begins : At [] (cycle-start kept first) (cycle-front first) last-offset
+  cycle-begins = record {
+    walk = subst (λ (o : OffsetsOf). WalkAt bytes ts X kept [] (cycle-start kept o) (cycle-front o)) (sym (can .first-is))
+        (walk-begins cycle-stand (can .keeps));
+    keeps = subst (λ (o : OffsetsOf). KeepsIdles ts X [] zeros 0 (o .idle) (o .idle)) (sym (can .first-is))
+        (keeps-begin cycle-stand (can .good) zeros (zeros-same (length (ts .tasks))));
+    wastes = wastes-begin cycle-stand (can .good) zeros (zeros-same (length (ts .tasks)));
+  }
 
   -- as many starts are to come as it has jobs
-  all-kept : all-jobs-in kept ≡ all
-  all-kept = can .keeps .all-there ∙ ap (λ (h : ℕ). all-jobs h ts) (set-hyperperiod (can .keeps))
+  pub all-kept : all-jobs-in kept ≡ all-jobs (hyperperiod ts) ts
+  all-kept = can .keeps .all-there ∙ ap (λ (h : ℕ). all-jobs h ts) (kept-cycle (can .keeps))
 
   all-to-come : suc (all - 1) + 0 ≡ all
   all-to-come = omega (arith, all-kept, can .keeps .all-there, a-job (can .keeps .good))
 
-  -- the run through the cycle, with as many starts as are kept, from rows that it begins with
-  module _ {releases : List ℕ} (are-first : releases ≡ first-releases s) where
-    -- these rows
-    abbrev begin : Rows
-    begin = (0 ∷ first .idle ∷ replicate 14 0) ∷ zeros ∷ releases ∷ first .inversions ∷ []
-
-    -- it can begin
-    pub cycle-can : CanRun (memory-set s) bytes true kept begin (all-jobs-in kept)
-    cycle-can =
-        rw are-first
-        (record {
-          fits = cycle-begins .walk .fits;
-          slots = λ _. cycle-begins .walk .slots;
-          read = λ _. rw all-kept (run-read (all - 1) [] (cycle-start s first) last-offset cycle-begins all-to-come);
-        })
-
-    -- it is the cycle's
-    pub cycle-run : run-from (memory-set s) bytes begin (all-jobs-in kept) ≡ cycle-of bytes s first
-    cycle-run = rw (are-first, all-kept) refl
+  -- the run through the cycle can begin, with as many starts as are kept
+  pub cycle-can : CanRun ts bytes true kept (cycle-start kept first) (cycle-front first) (all-jobs-in kept)
+  cycle-can = record {
+    stands = cycle-begins .walk .stands;
+    slots = λ _. cycle-begins .walk .slots;
+    read = λ _. rw all-kept (run-read (all - 1) [] (cycle-start kept first) (cycle-front first) last-offset cycle-begins all-to-come);
+  }
 
   -- what the cycle comes to
-  cycle-ends : EndsSo bytes ts X [] (cycle-of bytes s first)
-  cycle-ends = run-ends (all - 1) [] (cycle-start s first) last-offset cycle-begins all-to-come
+  cycle-ends : EndsSo bytes ts X [] (cycle-of ts bytes kept first)
+  cycle-ends = run-ends (all - 1) [] (cycle-start kept first) (cycle-front first) last-offset cycle-begins all-to-come
 
   -- a cycle that is stuck: the tables are refused with 18 at the number of starts
-  pub cycle-stuck : (number : ℕ) → cycle-of bytes s first .last ≡ Stuck number →
-      judge-tables (memory-set s) (can .tables) ≡ refuses (refusal 18 (length (cycle-of bytes s first .entries)))
+  pub cycle-stuck : (number : ℕ) → cycle-of ts bytes kept first .last ≡ Stuck number →
+      judge-tables ts (can .tables) ≡ refuses (refusal 18 (length (cycle-of ts bytes kept first .entries)))
   cycle-stuck = cycle-ends .stuck
 
   -- a cycle whose last start is found
-  pub cycle-done : (f : Found) → cycle-of bytes s first .last ≡ Starts f →
-      CycleDone bytes (memory-set s) (can .tables) (cycle-of bytes s first .entries) (f .idle) (cycle-of bytes s first .wasted)
+  pub cycle-done : (f : Found) → cycle-of ts bytes kept first .last ≡ Starts f →
+      CycleDone bytes ts (can .tables) (cycle-of ts bytes kept first .entries) (f .idle) (cycle-of ts bytes kept first .wasted)
   cycle-done = cycle-ends .done

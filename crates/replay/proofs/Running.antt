@@ -1,12 +1,12 @@
 -- A run of starts: a start that is found keeps the rules, also where nobody has judged the records; behind it the rows fit again; and where a run
 -- stands from start to start. Assumes nothing.
-use mathlib.Core.Path.{_≡_, refl, sym, _∙_, ap₂}
+use mathlib.Core.Path.{_≡_, refl, sym, _∙_, ap}
 use mathlib.Core.Bool.{Bool, true, false}
 use mathlib.Core.List.{List, [], _∷_}
 use Prim.Native.Nat.{ℕ, zero, suc, _+_, _-_, _≤_, _<_}
 use native.Mathlib.Omega.{arith}
 use native.Mathlib.Nat.{add-zero, zero-add, div-le-self, le-of-dvd, suc-mul}
-use lib.ListN.{length, getD, set, length-set, length-drop}
+use lib.ListN.{length, getD, set, length-set}
 use lib.Seq.{getD-set-same, getD-set-other}
 use borrow.Author.Tests.{lt-leb}
 use Rattle.rules.specs.declared.Entry.{Entry}
@@ -25,21 +25,23 @@ use Rattle.rules.proofs.StuckStarts.{by-next}
 use Rattle.rules.proofs.NextTurns.{next-keeps-rules}
 use Rattle.decision.specs.declared.Found.{Found}
 use Rattle.decision.specs.declared.NextStart.the-variants.{Starts, Stuck}
+use Rattle.sets.proofs.SetKept.{time-kept, period-kept}
 use Rattle.sets.specs.Kept.{Rows, tasks-in, hyperperiod-in, times-in, periods-in, Keeps}
-use Rattle.decision.specs.Fits.{instants-in, free-in, idle-offset-in, next-in, releases-in, offsets-in, Fits}
+use Rattle.decision.specs.declared.Front.{Front}
+use Rattle.decision.specs.Fits.{next-in, releases-in, offsets-in, Fits, Stands}
 use Rattle.decision.specs.Next.{AllRead, next-case, next-at}
 use Rattle.decision.proofs.Fitting.{is-hyperperiod}
 use Rattle.writing.specs.Writing.{put-at, record-put}
 use Rattle.writing.proofs.Puts.{put-length}
 use Rattle.replay.specs.declared.Run.{Run}
-use Rattle.replay.specs.Runs.{Ends, as-entry, start-first, wasted-by, stepped, InSlots, CanStep, behind, ends-of, AllReadIn, run-from, run-told, entries-from, PutsOn, Ran, CanRun}
+use Rattle.replay.specs.Runs.{Ends, as-entry, start-first, wasted-by, stepped, InSlots, CanStep, behind, front-behind, ends-of, AllReadIn, run-from, run-told, entries-from, PutsOn, Ran, CanRun}
 use Rattle.replay.proofs.Stores.{start-stores}
 
 -- a start as it is answered keeps the rules
-pub answer-keeps : {ts : Set} {kept at : Rows} (bytes : List ℕ) (f : Found) → Fits ts kept at → next-at ts bytes at ≡ Starts f →
+pub answer-keeps : {ts : Set} {kept at : Rows} (bytes : List ℕ) (front : Front) (f : Found) → Fits ts kept at → next-at ts bytes at front ≡ Starts f →
     StartKeepsRules ts (hyperperiod-in kept) (next-in at) (f .start) (f .task) (f .start)
-answer-keeps {ts} {kept} {at} bytes f fits e =
-    let here = standing (next-in at) (free-in at) (offsets-in at) (idle-offset-in at) in
+answer-keeps {ts} {kept} {at} bytes front f fits e =
+    let here = standing (next-in at) (front .free) (offsets-in at) (front .idle) in
     by-next (next-start (setting ts) (lent bytes ts) here)
     (λ i t w q.
     let is : next-case ts bytes (next-in at) (offsets-in at) (next-is i t w) ≡ Starts f = rw q at e in
@@ -54,7 +56,7 @@ pub record StartFits (ts : Set) (kept at : Rows) (f : Found) : Type 0 where
   pub one-more : getD (next-in at) (f .task) 0 + 1 ≤ limits .ticks
   pub next-release : getD (releases-in at) (f .task) 0 + task ts (f .task) .period ≤ 131070
   pub by-end : f .start + task ts (f .task) .time ≤ hyperperiod-in kept
-  pub fits : Fits ts kept (behind ts at f)
+  pub stands : Stands ts kept (behind ts at f) (front-behind ts f)
 
 module _ {ts : Set} {kept at : Rows} (fits : Fits ts kept at) (slots : InSlots at) (i : ℕ) (a : i < tasks-in kept) where
   -- next job numbers, and their releases
@@ -107,56 +109,50 @@ start-fits {ts} {kept} {at} {free} f fits slots keeps =
         good .short,
       );
       by-end = ends;
-      fits = record {
-        set = fits .set;
-        counts = λ j l. rw stored (counts-on fits slots i a (keeps .left) j l);
-        releases-there = λ j l. rw stored (releases-on fits slots i a j l);
+      stands = record {
+        fits = record {
+          set = fits .set;
+          counts = λ j l. rw stored (counts-on fits slots i a (keeps .left) j l);
+          releases-there = λ j l. rw stored (releases-on fits slots i a j l);
+        };
         by-end = ends;
       };
     }
 
 -- the rows behind a start are in their slots
-pub slots-behind : (at : Rows) (f : Found) (free release : ℕ) → InSlots at → InSlots (stepped at f free release)
-slots-behind at f free release slots = record {
+pub slots-behind : (at : Rows) (f : Found) (release : ℕ) → InSlots at → InSlots (stepped at f release)
+slots-behind at f release slots = record {
   rows = refl;
-  instants = omega (arith, length-drop 2 (instants-in at), slots .instants);
   next = length-set (next-in at) (f .task) _ ∙ slots .next;
   releases = length-set (releases-in at) (f .task) _ ∙ slots .releases;
   offsets = length-set (offsets-in at) (f .task) _ ∙ slots .offsets;
 }
 
--- the time and the period that are kept of a task
-module _ {ts : Set} {kept : Rows} (keeps : Keeps ts kept) (i : ℕ) (l : i < tasks-in kept) where
-  time-kept : getD (times-in kept) i 0 ≡ task ts i .time
-  time-kept = sym (slot-element (times-in kept) i) ∙ keeps .times-there i l
-
-  period-kept : getD (periods-in kept) i 0 ≡ task ts i .period
-  period-kept = sym (slot-element (periods-in kept) i) ∙ keeps .periods-there i l
-
 -- all offsets can be read at the first of decisions
-first-read : (ts : Set) (bytes : List ℕ) (kept : Rows) (more : ℕ) (at : Rows) → AllReadIn ts bytes kept more at → AllRead bytes ts kept at
+first-read : (ts : Set) (bytes : List ℕ) (kept : Rows) (more : ℕ) (at : Rows) (front : Front) → AllReadIn ts bytes kept more at front →
+    AllRead bytes ts kept at (front .idle)
 unfolding AllReadIn
-first-read ts bytes kept zero at all = all
-first-read ts bytes kept (suc more) at all = all .0
+first-read ts bytes kept zero at front all = all
+first-read ts bytes kept (suc more) at front all = all .0
 
 -- a run from a point, by what is answered there
-module _ (ts : Set) (bytes : List ℕ) (at : Rows) (wasted : ℕ) where
+module _ (ts : Set) (bytes : List ℕ) (at : Rows) (front : Front) (wasted : ℕ) where
   -- no start: it has come to its end
-  pub ends-stuck : (more number : ℕ) → next-at ts bytes at ≡ Stuck number →
-      ends-of ts bytes more at wasted ≡ record { entries = []; wasted = wasted; last = Stuck number }
+  pub ends-stuck : (more number : ℕ) → next-at ts bytes at front ≡ Stuck number →
+      ends-of ts bytes more at front wasted ≡ record { entries = []; wasted = wasted; last = Stuck number }
   unfolding ends-of
   ends-stuck zero number e = rw (e, ends-of)
   ends-stuck (suc more) number e = rw (e, ends-of)
 
   -- a start, and none behind it is wanted
-  pub ends-last : (f : Found) → next-at ts bytes at ≡ Starts f →
-      ends-of ts bytes 0 at wasted ≡ record { entries = as-entry f ∷ []; wasted = wasted-by at wasted f; last = Starts f }
+  pub ends-last : (f : Found) → next-at ts bytes at front ≡ Starts f →
+      ends-of ts bytes 0 at front wasted ≡ record { entries = as-entry f ∷ []; wasted = wasted-by at wasted f; last = Starts f }
   unfolding ends-of
   ends-last f e = rw (e, ends-of)
 
   -- a start before others
-  pub ends-more : (more : ℕ) (f : Found) → next-at ts bytes at ≡ Starts f →
-      ends-of ts bytes (suc more) at wasted ≡ start-first f (ends-of ts bytes more (behind ts at f) (wasted-by at wasted f))
+  pub ends-more : (more : ℕ) (f : Found) → next-at ts bytes at front ≡ Starts f →
+      ends-of ts bytes (suc more) at front wasted ≡ start-first f (ends-of ts bytes more (behind ts at f) (front-behind ts f) (wasted-by at wasted f))
   unfolding ends-of
   ends-more more f e = rw (e, ends-of)
 
@@ -185,24 +181,24 @@ told-behind made e = record { made = made + length (e .entries); wasted = e .was
 
 -- where a run stands that began at a point, with an output and a place in it, when so many starts are made: the rows fit, the offsets can be read in what
 -- is left, and what is left comes to what the whole run comes to
-pub record RunAt (ts : Set) (bytes : List ℕ) (judged : Bool) (kept first : Rows) (wanted : ℕ) (old : List ℕ) (begin : ℕ)
-    (at : Rows) (wasted : ℕ) (out : List ℕ) (place made : ℕ) : Type 0 where
-  pub fits : Fits ts kept at
+pub record RunAt (ts : Set) (bytes : List ℕ) (judged : Bool) (kept first : Rows) (from : Front) (wanted : ℕ) (old : List ℕ)
+    (at : Rows) (front : Front) (wasted : ℕ) (out : List ℕ) (place made : ℕ) : Type 0 where
+  pub stands : Stands ts kept at front
   pub slots : 1 < wanted → InSlots at
   pub left : made ≤ wanted - 1
-  pub read : judged ≡ true → AllReadIn ts bytes kept (wanted - 1 - made) at
+  pub read : judged ≡ true → AllReadIn ts bytes kept (wanted - 1 - made) at front
   pub same-length : length out ≡ length old
-  pub told : told-behind made (ends-of ts bytes (wanted - 1 - made) at wasted) ≡ run-told (run-from ts bytes first wanted)
-  pub put : entries-from out place (ends-of ts bytes (wanted - 1 - made) at wasted .entries) ≡ entries-from old begin (run-from ts bytes first wanted .entries)
+  pub told : told-behind made (ends-of ts bytes (wanted - 1 - made) at front wasted) ≡ run-told (run-from ts bytes first from wanted)
+  pub put : entries-from out place (ends-of ts bytes (wanted - 1 - made) at front wasted .entries) ≡ entries-from old 0 (run-from ts bytes first from wanted .entries)
 
-module _ {ts : Set} {bytes : List ℕ} {judged : Bool} {kept first : Rows} {wanted : ℕ} (can : CanRun ts bytes judged kept first wanted)
-    (old : List ℕ) (begin : ℕ) where
+module _ {ts : Set} {bytes : List ℕ} {judged : Bool} {kept first : Rows} {from : Front} {wanted : ℕ} (can : CanRun ts bytes judged kept first from wanted)
+    (old : List ℕ) where
   -- at its beginning
-  pub run-begins : RunAt ts bytes judged kept first wanted old begin first last-offset old begin 0
+  pub run-begins : RunAt ts bytes judged kept first from wanted old first from last-offset old 0 0
   run-begins =
       let none : wanted - 1 - 0 ≡ wanted - 1 = omega arith in
       record {
-        fits = can .fits;
+        stands = can .stands;
         slots = can .slots;
         left = omega arith;
         read = rw none (can .read);
@@ -213,31 +209,32 @@ module _ {ts : Set} {bytes : List ℕ} {judged : Bool} {kept first : Rows} {want
 
   -- what the run is to tell and to leave in the output
   abbrev Ended : Run → List ℕ → Type 0
-  Ended = Ran (run-from ts bytes first wanted) old begin
+  Ended = Ran (run-from ts bytes first from wanted) old
 
-  module _ {at : Rows} {wasted : ℕ} {out : List ℕ} {place made : ℕ} (r : RunAt ts bytes judged kept first wanted old begin at wasted out place made) where
+  module _ {at : Rows} {front : Front} {wasted : ℕ} {out : List ℕ} {place made : ℕ}
+      (r : RunAt ts bytes judged kept first from wanted old at front wasted out place made) where
     -- the offsets can be read
-    pub run-reads : judged ≡ true → AllRead bytes ts kept at
-    run-reads j = first-read ts bytes kept (wanted - 1 - made) at (r .read j)
+    pub run-reads : judged ≡ true → AllRead bytes ts kept at (front .idle)
+    run-reads j = first-read ts bytes kept (wanted - 1 - made) at front (r .read j)
 
     -- no start is found
-    pub run-stuck : (number : ℕ) → next-at ts bytes at ≡ Stuck number → Ended (record { made = made; wasted = wasted; last = Stuck number }) out
+    pub run-stuck : (number : ℕ) → next-at ts bytes at front ≡ Stuck number → Ended (record { made = made; wasted = wasted; last = Stuck number }) out
     unfolding entries-from
     run-stuck number e =
-        let is = ends-stuck ts bytes at wasted (wanted - 1 - made) number e in
-        let told : told-behind made (record { entries = []; wasted = wasted; last = Stuck number }) ≡ run-told (run-from ts bytes first wanted) =
+        let is = ends-stuck ts bytes at front wasted (wanted - 1 - made) number e in
+        let told : told-behind made (record { entries = []; wasted = wasted; last = Stuck number }) ≡ run-told (run-from ts bytes first from wanted) =
         rw is at (r .told) in
-        let put : entries-from out place [] ≡ entries-from old begin (run-from ts bytes first wanted .entries) = rw is at (r .put) in
+        let put : entries-from out place [] ≡ entries-from old 0 (run-from ts bytes first from wanted .entries) = rw is at (r .put) in
         record { told = rw (add-zero made) at told; output = put }
 
-    module _ (f : Found) (e : next-at ts bytes at ≡ Starts f) where
+    module _ (f : Found) (e : next-at ts bytes at front ≡ Starts f) where
       -- a start that is found keeps the rules
       its-rules : StartKeepsRules ts (hyperperiod-in kept) (next-in at) (f .start) (f .task) (f .start)
-      its-rules = answer-keeps bytes f (r .fits) e
+      its-rules = answer-keeps bytes front f (r .stands .fits) e
 
       -- its task has a slot
       pub run-task : f .task < limits .tasks
-      run-task = omega (arith, its-rules .a-task, r .fits .set .n-tasks, r .fits .set .few)
+      run-task = omega (arith, its-rules .a-task, r .stands .fits .set .n-tasks, r .stands .fits .set .few)
 
       -- it was the last that was wanted
       pub run-ends : {out′ : List ℕ} {place′ : ℕ} → PutsOn out place out′ place′ f → wanted ≤ made + 1 →
@@ -245,13 +242,13 @@ module _ {ts : Set} {bytes : List ℕ} {judged : Bool} {kept first : Rows} {want
       unfolding entries-from
       run-ends puts enough =
           let none : wanted - 1 - made ≡ 0 = omega (arith, r .left) in
-          let is = ends-last ts bytes at wasted f e in
+          let is = ends-last ts bytes at front wasted f e in
           record { told = rw (none, is) at (r .told); output = sym (puts .on []) ∙ (rw (none, is) at (r .put)) }
 
       module _ (more : made + 1 < wanted) where
         -- more are wanted: the numbers and rows
         run-start : StartFits ts kept at f
-        run-start = start-fits f (r .fits) (r .slots (omega arith)) its-rules
+        run-start = start-fits f (r .stands .fits) (r .slots (omega arith)) its-rules
 
         -- it may be noted in the rows
         pub run-steps : CanStep kept at f
@@ -260,25 +257,25 @@ module _ {ts : Set} {bytes : List ℕ} {judged : Bool} {kept first : Rows} {want
             record {
               slots = r .slots (omega arith);
               in-slots = run-task;
-              free = omega (arith, on .by-end, time-kept (r .fits .set) (f .task) (on .a-task), r .fits .set .good .short);
+              free = omega (arith, on .by-end, time-kept (r .stands .fits .set) (f .task) (on .a-task), r .stands .fits .set .good .short);
               counts = omega (arith, on .one-more);
-              release = omega (arith, on .next-release, period-kept (r .fits .set) (f .task) (on .a-task));
+              release = omega (arith, on .next-release, period-kept (r .stands .fits .set) (f .task) (on .a-task));
             }
 
         -- where the run stands behind it
         run-behind : {out′ : List ℕ} {place′ : ℕ} → PutsOn out place out′ place′ f →
-            RunAt ts bytes judged kept first wanted old begin (behind ts at f) (wasted-by at wasted f) out′ place′ (made + 1)
+            RunAt ts bytes judged kept first from wanted old (behind ts at f) (front-behind ts f) (wasted-by at wasted f) out′ place′ (made + 1)
         unfolding AllReadIn
         run-behind puts =
             let rest : ℕ = wanted - 1 - (made + 1) in
-            let others : Ends = ends-of ts bytes rest (behind ts at f) (wasted-by at wasted f) in
+            let others : Ends = ends-of ts bytes rest (behind ts at f) (front-behind ts f) (wasted-by at wasted f) in
             let left : wanted - 1 - made ≡ suc rest = omega arith in
-            let is = ends-more ts bytes at wasted rest f e in
-            let told : told-behind made (start-first f others) ≡ run-told (run-from ts bytes first wanted) = rw (left, is) at (r .told) in
+            let is = ends-more ts bytes at front wasted rest f e in
+            let told : told-behind made (start-first f others) ≡ run-told (run-from ts bytes first from wanted) = rw (left, is) at (r .told) in
             let counted : made + suc (length (others .entries)) ≡ made + 1 + length (others .entries) = omega arith in
             record {
-              fits = run-start .fits;
-              slots = λ l. slots-behind at f _ _ (r .slots l);
+              stands = run-start .stands;
+              slots = λ l. slots-behind at f _ (r .slots l);
               left = omega arith;
               read = λ j. (rw left at (r .read j)) .1 f e;
               same-length = puts .same-length ∙ r .same-length;
@@ -287,27 +284,28 @@ module _ {ts : Set} {bytes : List ℕ} {judged : Bool} {kept first : Rows} {want
             }
 
         -- as the code notes it, with the time and the period that are kept
-        pub run-on : {at′ : Rows} {wasted′ : ℕ} {out′ : List ℕ} {place′ : ℕ} →
-            at′
-            ≡ stepped at f (f .start + getD (times-in kept) (f .task) 0) (getD (releases-in at) (f .task) 0 + getD (periods-in kept) (f .task) 0) →
+        pub run-on : {at′ : Rows} {front′ : Front} {wasted′ : ℕ} {out′ : List ℕ} {place′ : ℕ} →
+            at′ ≡ stepped at f (getD (releases-in at) (f .task) 0 + getD (periods-in kept) (f .task) 0) →
+            front′ ≡ record { free = f .start + getD (times-in kept) (f .task) 0; idle = f .idle } →
             wasted′ ≡ wasted-by at wasted f → PutsOn out place out′ place′ f →
-            RunAt ts bytes judged kept first wanted old begin at′ wasted′ out′ place′ (made + 1)
-        run-on noted is-wasted puts =
-            let same = ap₂ (λ (time period : ℕ). stepped at f (f .start + time) (getD (releases-in at) (f .task) 0 + period))
-            (time-kept (r .fits .set) (f .task) (run-start .a-task)) (period-kept (r .fits .set) (f .task) (run-start .a-task)) in
-            rw (noted ∙ same, is-wasted) (run-behind puts)
+            RunAt ts bytes judged kept first from wanted old at′ front′ wasted′ out′ place′ (made + 1)
+        run-on noted reached is-wasted puts =
+            let period = period-kept (r .stands .fits .set) (f .task) (run-start .a-task) in
+            let time = time-kept (r .stands .fits .set) (f .task) (run-start .a-task) in
+            let rows = ap (λ (k : ℕ). stepped at f (getD (releases-in at) (f .task) 0 + k)) period in
+            rw (noted ∙ rows, reached, time, is-wasted) (run-behind puts)
 
 -- one start may run wherever the rows fit, for records that nobody has judged
-pub one-may-run : {ts : Set} {kept at : Rows} (bytes : List ℕ) → Fits ts kept at → CanRun ts bytes false kept at 1
-one-may-run bytes fits = record {
-  fits = fits;
+pub one-may-run : {ts : Set} {kept at : Rows} {front : Front} (bytes : List ℕ) → Stands ts kept at front → CanRun ts bytes false kept at front 1
+one-may-run bytes stands = record {
+  stands = stands;
   slots = λ l. absurd (omega arith);
   read = λ j. differ (sym j);
 }
 
 -- its last answer is the next start
-pub one-answer : (ts : Set) (bytes : List ℕ) (at : Rows) → run-from ts bytes at 1 .last ≡ next-at ts bytes at
+pub one-answer : (ts : Set) (bytes : List ℕ) (at : Rows) (front : Front) → run-from ts bytes at front 1 .last ≡ next-at ts bytes at front
 unfolding ends-of
-one-answer ts bytes at =
-    by-next (next-start (setting ts) (lent bytes ts) (standing (next-in at) (free-in at) (offsets-in at) (idle-offset-in at)))
+one-answer ts bytes at front =
+    by-next (next-start (setting ts) (lent bytes ts) (standing (next-in at) (front .free) (offsets-in at) (front .idle)))
     (λ i t w q. rw (q, ends-of)) (λ m q. rw (q, ends-of))

@@ -1,9 +1,7 @@
 // Starts, one behind the other: replay through a cycle, for accepting and for rebuilding, and the dispatcher's one start. All of them come to the
 // next start in one place, so that the compiler puts it in line. No heap and no table of jobs; memory beside the arguments is a few rows of 16.
-use decision::FREE;
 use decision::Found;
-use decision::IDLE;
-use decision::INSTANTS;
+use decision::Front;
 use decision::LAST_OFFSET;
 use decision::NEXT;
 use decision::NextStart;
@@ -12,20 +10,19 @@ use decision::RELEASE;
 use images::ENTRY_SIZE;
 use rules::Entry;
 use rules::Offsets;
-use rules::TaskSet;
 use sets::ALL_JOBS;
 use sets::FIGURES;
+use sets::FIRST;
 use sets::PERIODS;
 use sets::TIMES;
 ghost use mathlib.Core.Path.{_≡_};
-ghost use mathlib.Core.List.{List};
 ghost use Prim.Native.Nat.{_+_};
 ghost use Rattle.rules.specs.Tasks.{Set};
 ghost use lib.ListN.{getD};
 ghost use Rattle.sets.specs.Kept.{times-in, periods-in};
-ghost use Rattle.decision.specs.Fits.{releases-in, Fits};
+ghost use Rattle.decision.specs.Fits.{releases-in, Stands};
 ghost use Rattle.decision.specs.Next.{FindsNext};
-ghost use Rattle.replay.specs.Runs.{wasted-after, stepped, CanStep, PutsOn, run-from, Ran, CanRun, CanReplay, first-releases, cycle-of};
+ghost use Rattle.replay.specs.Runs.{wasted-after, stepped, CanStep, PutsOn, run-from, Ran, CanRun, CanReplay, cycle-of};
 
 // The least offset of a record that had no effect, after a start from a task's offset to the one behind it: its own record, if that is where the
 // offset was, had none where no lower-numbered task was waiting.
@@ -62,21 +59,24 @@ fn put_start(out: &mut [u8], place: usize, f: Found) -> usize
     place + ENTRY_SIZE
 }
 
-// Where replay stands behind a start: the processor is free when it ends, idle records are looked for behind those it used, and its task's next job is the
-// one behind it, from its own offset on.
-fn step(kept: &[[u32; 16]; 5], at: &mut [[u32; 16]; 4], f: Found)
+// The rows behind a start: its task's next job is the one behind it, from its own offset on. And how far replay has come then: the processor is free when
+// the start's job ends, and idle records are looked for behind those it used.
+fn step(kept: &[[u32; 16]; 6], at: &mut [[u32; 16]; 3], f: Found) -> Front
     requires { ⌜ CanStep (now kept) (now at) f ⌝ }
-    ensures { λ _. ⌜ now (at .exit) ≡ stepped (now (at .entry)) f (f .start + getD (times-in (now (kept .entry))) (f .task) 0)
+    ensures rows { λ _. ⌜ now (at .exit) ≡ stepped (now (at .entry)) f
         (getD (releases-in (now (at .entry))) (f .task) 0 + getD (periods-in (now (kept .entry))) (f .task) 0) ⌝ }
+    ensures front { λ r. ⌜ r ≡ record { free = f .start + getD (times-in (now (kept .entry))) (f .task) 0; idle = f .idle } ⌝ }
 {
     let i = f.task as usize;
     let job = at[NEXT][i] + 1;
     let release = at[RELEASE][i] + kept[PERIODS][i];
-    at[INSTANTS][FREE] = f.start + kept[TIMES][i];
-    at[INSTANTS][IDLE] = f.idle;
     at[NEXT][i] = job;
     at[RELEASE][i] = release;
     at[OFFSETS][i] = f.inversion;
+    Front {
+        free: f.start + kept[TIMES][i],
+        idle: f.idle,
+    }
 }
 
 // What a run of starts came to: how many it found, the least offset of a PV record that had no effect, and the last answer, a start or what stopped
@@ -95,25 +95,26 @@ fn ran(made: usize, wasted: u32, last: NextStart) -> Run
 }
 
 // So many starts, and one at least, from where replay stands, up to the first that is not found. Each is put into the output as an entry, one behind the
-// other from a place on, where it fits.
+// other, where it fits.
 fn starts(
     image: &[u8],
     judged: bool,
-    kept: &[[u32; 16]; 5],
-    at: &mut [[u32; 16]; 4],
+    kept: &[[u32; 16]; 6],
+    at: &mut [[u32; 16]; 3],
+    from: Front,
     wanted: usize,
     out: &mut [u8],
-    first: usize,
 ) -> Run
-    requires { ⌜ ((ts : Set) × CanRun ts (now image) judged (now kept) (now at) wanted) ⌝ }
-    ensures { λ r. ⌜ ((ts : Set) → CanRun ts (now (image .entry)) judged (now (kept .entry)) (now (at .entry)) wanted →
-        Ran (run-from ts (now (image .entry)) (now (at .entry)) wanted) (now (out .entry)) first r (now (out .exit))) ⌝ }
+    requires { ⌜ ((ts : Set) × CanRun ts (now image) judged (now kept) (now at) from wanted) ⌝ }
+    ensures { λ r. ⌜ ((ts : Set) → CanRun ts (now (image .entry)) judged (now (kept .entry)) (now (at .entry)) from wanted →
+        Ran (run-from ts (now (image .entry)) (now (at .entry)) from wanted) (now (out .entry)) r (now (out .exit))) ⌝ }
 {
+    let mut front = from;
     let mut wasted = LAST_OFFSET;
-    let mut place = first;
+    let mut place: usize = 0;
     let mut made: usize = 0;
     'starts: loop {
-        match decision::next_start(image, judged, kept, at) {
+        match decision::next_start(image, judged, kept, at, front) {
             NextStart::Stuck(number) => {
                 break 'starts ran(made, wasted, NextStart::Stuck(number));
             }
@@ -124,54 +125,42 @@ fn starts(
                 if wanted <= made {
                     break 'starts ran(made, wasted, NextStart::Starts(f));
                 }
-                step(kept, at, f);
+                front = step(kept, at, f);
             }
         }
     }
 }
 
 // The next start, for records that nobody has judged.
-pub fn one_start(image: &[u8], kept: &[[u32; 16]; 5], at: &mut [[u32; 16]; 4]) -> NextStart
-    requires { ⌜ ((ts : Set) × Fits ts (now kept) (now at)) ⌝ }
-    ensures { λ r. ⌜ FindsNext (now (image .entry)) (now (kept .entry)) (now (at .entry)) r ⌝ }
+pub fn one_start(
+    image: &[u8],
+    kept: &[[u32; 16]; 6],
+    at: &mut [[u32; 16]; 3],
+    front: Front,
+) -> NextStart
+    requires { ⌜ ((ts : Set) × Stands ts (now kept) (now at) front) ⌝ }
+    ensures { λ r. ⌜ FindsNext (now (image .entry)) (now (kept .entry)) (now (at .entry)) front r ⌝ }
 {
     let mut nowhere = [0u8; 0];
-    let run = starts(image, false, kept, at, 1, &mut nowhere, 0);
+    let run = starts(image, false, kept, at, front, 1, &mut nowhere);
     run.last
 }
 
-// The release of each task's job 0.
-fn first_releases(s: TaskSet) -> [u32; 16]
-    ensures { λ r. ⌜ r ≡ first-releases s ⌝ }
-{
-    let mut release = [0u32; 16];
-    let mut i: usize = 0;
-    while i < 16 {
-        release[i] = s.tasks[i].offset;
-        i += 1;
-    }
-    release
-}
-
 // Replay through one cycle, as many starts as it has jobs, of an image whose records were judged. The entries are put into the output, one behind the
-// other from a place on, where they fit.
-pub fn cycle(
-    image: &[u8],
-    s: TaskSet,
-    kept: &[[u32; 16]; 5],
-    first: Offsets,
-    out: &mut [u8],
-    place: usize,
-) -> Run
-    requires { ⌜ CanReplay (now image) s (now kept) first ⌝ }
-    ensures { λ r. ⌜ Ran (cycle-of (now (image .entry)) s first) (now (out .entry)) place r (now (out .exit)) ⌝ }
+// other, where they fit.
+pub fn cycle(image: &[u8], kept: &[[u32; 16]; 6], first: Offsets, out: &mut [u8]) -> Run
+    requires { ⌜ ((ts : Set) × CanReplay ts (now image) (now kept) first) ⌝ }
+    ensures { λ r. ⌜ ((ts : Set) → CanReplay ts (now (image .entry)) (now (kept .entry)) first →
+        Ran (cycle-of ts (now (image .entry)) (now (kept .entry)) first) (now (out .entry)) r (now (out .exit))) ⌝ }
 {
-    let mut instants = [0u32; 16];
-    instants[IDLE] = first.idle;
     let next = [0u32; 16];
-    let releases = first_releases(s);
+    let releases = kept[FIRST];
     let offsets = first.inversions;
-    let mut begin = [instants, next, releases, offsets];
+    let mut begin = [next, releases, offsets];
+    let front = Front {
+        free: 0,
+        idle: first.idle,
+    };
     let all = kept[FIGURES][ALL_JOBS] as usize;
-    starts(image, true, kept, &mut begin, all, out, place)
+    starts(image, true, kept, &mut begin, front, all, out)
 }

@@ -65,7 +65,7 @@ parted-same (r ∷ a) b (s ∷ c) d e l =
     (cc, v)
 
 -- after starts, this is the offset of the first ID that is not a derived one; as long as all used ones are, it is the ID offset
-pub record Keeps (ts : Set) (X : Tables) (σ : List Entry) (x : List ℕ) (f o kept : ℕ) : Type 0 where
+pub record KeepsIdles (ts : Set) (X : Tables) (σ : List Entry) (x : List ℕ) (f o kept : ℕ) : Type 0 where
   pub used : List Idle
   pub left : List Idle
   pub all : X .idles ≡ used ++ left
@@ -76,7 +76,7 @@ pub record Keeps (ts : Set) (X : Tables) (σ : List Entry) (x : List ℕ) (f o k
 
 module _ {bytes : List ℕ} {ts : Set} {X : Tables} {n : ℕ} (st : Stand bytes ts X n) (good : set-fault ts ≡ none) where
   -- at the start of a cycle
-  pub keeps-begin : (x : List ℕ) → Same (length (ts .tasks)) x [] → Keeps ts X [] x 0 (head-length ts) (head-length ts)
+  pub keeps-begin : (x : List ℕ) → Same (length (ts .tasks)) x [] → KeepsIdles ts X [] x 0 (head-length ts) (head-length ts)
   keeps-begin x s = record {
     used = [];
     left = X .idles;
@@ -90,7 +90,7 @@ module _ {bytes : List ℕ} {ts : Set} {X : Tables} {n : ℕ} (st : Stand bytes 
     };
   }
 
-  module _ {σ : List Entry} {x : List ℕ} {f : ℕ} {offsets : List ℕ} {o kept : ℕ} (R : ReplaysAt bytes ts X σ x f offsets o) (K : Keeps ts X σ x f o kept) where
+  module _ {σ : List Entry} {x : List ℕ} {f : ℕ} {offsets : List ℕ} {o kept : ℕ} (R : ReplaysAt bytes ts X σ x f offsets o) (K : KeepsIdles ts X σ x f o kept) where
     -- a start
     module _ (open-jobs : all-started (hyperperiod ts) (ts .tasks) x ≡ false) (i t w : ℕ)
         (next : next-start (setting ts) (lent bytes ts) (standing x f offsets o) ≡ next-is i t w) where
@@ -106,7 +106,7 @@ module _ {bytes : List ℕ} {ts : Set} {X : Tables} {n : ℕ} (st : Stand bytes 
           derived-at (setting ts) (lent bytes ts) x t o w (z .idles-used) (z .idles-left) (rw (z .way .all) at (R .idles-shown)) (z .offset)
 
       -- the offset is kept behind it
-      pub keeps-starts : Keeps ts X more-starts (start-job x i) (t + task ts i .time) w (kept-behind (setting ts) (lent bytes ts) x t kept o w)
+      pub keeps-starts : KeepsIdles ts X more-starts (start-job x i) (t + task ts i .time) w (kept-behind (setting ts) (lent bytes ts) x t kept o w)
       keeps-starts =
           let z = next-replayed st good R open-jobs i t w next in
           let more : List Idle = z .idles-used in
@@ -137,11 +137,11 @@ module _ {bytes : List ℕ} {ts : Set} {X : Tables} {n : ℕ} (st : Stand bytes 
           moves more false q e = K .kept-offset
 
       -- with a baseline that never waits it stays the ID offset
-      pub keeps-along : NeverWaits (setting ts) → kept ≡ o → Keeps ts X more-starts (start-job x i) (t + task ts i .time) w w
+      pub keeps-along : NeverWaits (setting ts) → kept ≡ o → KeepsIdles ts X more-starts (start-job x i) (t + task ts i .time) w w
       keeps-along never along =
           let derived = used-derived ∙ next-replayed st good R open-jobs i t w next .way .always never in
           let behind : kept-behind (setting ts) (lent bytes ts) x t kept o w ≡ w = rw (eq-eqb kept o along, derived) in
-          subst (λ (k : ℕ). Keeps ts X more-starts (start-job x i) (t + task ts i .time) w k) behind keeps-starts
+          subst (λ (k : ℕ). KeepsIdles ts X more-starts (start-job x i) (t + task ts i .time) w k) behind keeps-starts
 
     -- all jobs have started: the first difference is at the kept ID; where none stands there, it is that of the inversions
     pub kept-differs : all-started (hyperperiod ts) (ts .tasks) x ≡ true → (place : ℕ) →

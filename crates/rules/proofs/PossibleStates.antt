@@ -16,7 +16,7 @@ use Rattle.rules.specs.declared.Dispatcher.{Dispatcher as State}
 use Rattle.rules.specs.Refusals.{first, unless}
 use Rattle.rules.specs.Tasks.{task-in, Set, both, limits, task, release, jobs, hyperperiod, few-enough, set-fault, memory-fault}
 use Rattle.rules.specs.Priority.{slot, all-started}
-use Rattle.rules.specs.Dispatcher.{task-numbers, numbers, zero-task, stopped, all-zero, is-stopped, set-of, is-none, counts-possible, possible, Shaped, number-count}
+use Rattle.rules.specs.Dispatcher.{numbers-a-task, task-numbers, numbers, zero-task, stopped, all-zero, is-stopped, set-of, is-none, counts-possible, possible, Shaped, number-count}
 use Rattle.rules.specs.GoingOn.{Stopped, PossibleState, CycleDone}
 use Rattle.rules.proofs.Cases.{by-le, clash, differ, both-true, both-in, first-none, unless-none}
 use Rattle.rules.proofs.PriorityLaws.{slot-empty, left-not-all}
@@ -161,7 +161,7 @@ pub stopped-is-stopped : is-stopped stopped ≡ true
 stopped-is-stopped = refl
 
 -- a task has four numbers
-pub four-each : (ts : List Task) → length (task-numbers ts) ≡ 4 * length ts
+pub four-each : (ts : List Task) → length (task-numbers ts) ≡ numbers-a-task * length ts
 four-each [] = refl
 four-each (t ∷ ts) = omega (arith, four-each ts)
 

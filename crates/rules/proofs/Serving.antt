@@ -37,7 +37,7 @@ use Rattle.rules.proofs.Slots.{Same}
 use Rattle.rules.proofs.ShownAt.{Stand}
 use Rattle.rules.proofs.OneMoreStart.{starts-given, start-given, after-counts}
 use Rattle.rules.proofs.OffsetReplay.{zeros-same, ReplaysAt, replay-begins, replay-starts, replay-stuck, next-replayed}
-use Rattle.rules.proofs.KeptOffsets.{kept-behind, Keeps, keeps-begin, keeps-starts}
+use Rattle.rules.proofs.KeptOffsets.{kept-behind, KeepsIdles, keeps-begin, keeps-starts}
 
 -- a start answered, with the state beside it
 abbrev pub answered : StartOf → State → Turn
@@ -59,7 +59,7 @@ module _ (bytes : List ℕ) (ts : Set) (X : Tables) (τ : List Entry) where
   pub record Ready (r : ℕ) (a : Standing (List ℕ)) : Type 0 where
     pub replays : ReplaysAt bytes ts X (take r τ) (a .next) (a .free) (a .offsets) (a .idle)
     pub kept : ℕ
-    pub keeps : Keeps ts X (take r τ) (a .next) (a .free) (a .idle) kept
+    pub keeps : KeepsIdles ts X (take r τ) (a .next) (a .free) (a .idle) kept
     pub next-slots : length (a .next) ≡ limits .tasks
     pub offset-slots : length (a .offsets) ≡ limits .tasks
 

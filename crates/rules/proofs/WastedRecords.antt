@@ -36,7 +36,7 @@ use Rattle.rules.proofs.FirstDifferences.{is-missing, missing-in, befor
 use Rattle.rules.proofs.Slots.{Same, by-slots}
 use Rattle.rules.proofs.ShownAt.{Stand}
 use Rattle.rules.proofs.OneMoreStart.{after-starts, inversions-other, inversions-own}
-use Rattle.rules.proofs.KeptOffsets.{Keeps, kept-differs}
+use Rattle.rules.proofs.KeptOffsets.{KeepsIdles, kept-differs}
 use Rattle.rules.proofs.OffsetReplay.{first-inversion-offset, before-pair, before-with, before-few, inversion-after, past-without, past-with, ReplaysAt, replay-done, replay-stuck, next-replayed, shown-delay}
 
 -- a table has a delay for the job of each of its records
@@ -209,7 +209,7 @@ module _ {bytes : List ℕ} {ts : Set} {X : Tables} {n : ℕ} (st : Stand bytes 
 
   -- all jobs have started
   module _ {σ : List Entry} {x : List ℕ} {f : ℕ} {offsets : List ℕ} {o kept wasted : ℕ} (R : ReplaysAt bytes ts X σ x f offsets o)
-      (K : Keeps ts X σ x f o kept) (W : Wastes ts X σ x wasted) (done : all-started (hyperperiod ts) (ts .tasks) x ≡ true) where
+      (K : KeepsIdles ts X σ x f o kept) (W : Wastes ts X σ x wasted) (done : all-started (hyperperiod ts) (ts .tasks) x ≡ true) where
     -- the starts are a valid timetable
     pub done-valid : ValidFrom (setting ts) [] 0 σ
     done-valid = yields (setting ts) (laws ts good) (suc (hyperperiod ts)) [] 0 (X .idles) (X .inversions) σ (replay-done st good R done)
@@ -302,7 +302,7 @@ module _ {bytes : List ℕ} {ts : Set} {X : Tables} {n : ℕ} (st : Stand bytes 
     judged-late left number e = judged-by-replay ∙ ap (λ z. then z (compared ts X)) (replay-stuck st good R left number e)
 
     -- with all jobs started, what comparing comes to
-    module _ {kept wasted : ℕ} (K : Keeps ts X σ x f o kept) (W : Wastes ts X σ x wasted) (done : all-started (hyperperiod ts) (ts .tasks) x ≡ true) where
+    module _ {kept wasted : ℕ} (K : KeepsIdles ts X σ x f o kept) (W : Wastes ts X σ x wasted) (done : all-started (hyperperiod ts) (ts .tasks) x ≡ true) where
       -- judging compares the tables with those of the starts
       judged-as : judge-tables ts X ≡ or-else (tables-differ (head-count ts) X (tables ts σ)) (gives σ)
       judged-as = judged-by-replay ∙ ap (λ z. then z (compared ts X)) (replay-done st good R done)

@@ -40,40 +40,45 @@ numbers s =
     ∷ s .now .idle
     ∷ (s .now .inversions ++ (s .first .idle ∷ s .first .inversions)))))
 
--- where each part begins as a state lies in memory, with sixteen slots in each of its lists; the set, n and four numbers of each task, comes first
+-- a task is so many numbers, and a set is n and those of its sixteen slots
+abbrev pub numbers-a-task : ℕ
+numbers-a-task = 4
+
 abbrev pub set-numbers : ℕ
-set-numbers = 1 + 4 * limits .tasks
+set-numbers = 1 + numbers-a-task * limits .tasks
 
-abbrev pub next-at : ℕ
-next-at = set-numbers
+-- where each part begins as a state lies in memory, with sixteen slots in each of its lists; the set comes first
 
-abbrev pub cycle-at : ℕ
-cycle-at = next-at + limits .tasks
+abbrev pub next-position : ℕ
+next-position = set-numbers
 
-abbrev pub task-at : ℕ
-task-at = cycle-at + 1
+abbrev pub cycle-position : ℕ
+cycle-position = next-position + limits .tasks
 
-abbrev pub job-at : ℕ
-job-at = task-at + 1
+abbrev pub task-position : ℕ
+task-position = cycle-position + 1
 
-abbrev pub start-at : ℕ
-start-at = job-at + 1
+abbrev pub job-position : ℕ
+job-position = task-position + 1
 
-abbrev pub idle-at : ℕ
-idle-at = start-at + 1
+abbrev pub start-position : ℕ
+start-position = job-position + 1
 
-abbrev pub inversions-at : ℕ
-inversions-at = idle-at + 1
+abbrev pub idle-position : ℕ
+idle-position = start-position + 1
 
-abbrev pub first-idle-at : ℕ
-first-idle-at = inversions-at + limits .tasks
+abbrev pub inversions-position : ℕ
+inversions-position = idle-position + 1
 
-abbrev pub first-inversions-at : ℕ
-first-inversions-at = first-idle-at + 1
+abbrev pub first-idle-position : ℕ
+first-idle-position = inversions-position + limits .tasks
+
+abbrev pub first-inversions-position : ℕ
+first-inversions-position = first-idle-position + 1
 
 -- so many numbers are all
 abbrev pub number-count : ℕ
-number-count = first-inversions-at + limits .tasks
+number-count = first-inversions-position + limits .tasks
 
 pub record Shaped (s : State) : Type 0 where
   pub tasks : length (s .set .tasks) ≡ limits .tasks
@@ -88,12 +93,15 @@ zeros = replicate (limits .tasks) 0
 abbrev pub zero-task : Task
 zero-task = record { offset = 0; time = 0; period = 0; deadline = 0 }
 
+abbrev pub zero-set : TaskSet
+zero-set = record { n = 0; tasks = replicate (limits .tasks) zero-task }
+
 abbrev pub zero-offsets : OffsetsOf
 zero-offsets = record { idle = 0; inversions = zeros }
 
 abbrev pub stopped : State
 stopped = record {
-  set = record { n = 0; tasks = replicate (limits .tasks) zero-task };
+  set = zero-set;
   next = zeros;
   cycle = 0;
   running = record { task = 0; job = 0; start = 0 };

@@ -4,7 +4,7 @@ use mathlib.Core.List.{List, [], _∷_}
 use mathlib.Core.Option.{Option, none, some}
 use Prim.Native.Nat.{ℕ, suc, _+_, _*_}
 use lib.Dec.{eqb}
-use lib.ListN.{drop}
+use lib.ListN.{length, drop}
 use Rattle.fields.specs.Body.{total, values-in}
 use Rattle.rules.specs.Tasks.{both}
 
@@ -53,6 +53,9 @@ row EN = row-of 0x45 0x4E (4 ∷ []) true true 8 end-class true
 
 abbrev pub marks : List Mark
 marks = TS ∷ TK ∷ SL ∷ ID ∷ PV ∷ EN ∷ []
+
+abbrev pub mark-count : ℕ
+mark-count = length marks
 
 -- the bytes of a record's body, and of the whole record
 abbrev pub body-length : Mark → ℕ

@@ -12,12 +12,26 @@ pub struct Task {
     pub deadline: u32,
 }
 
+// What stands in a slot without a task.
+pub const NO_TASK: Task = Task {
+    offset: 0,
+    time: 0,
+    period: 0,
+    deadline: 0,
+};
+
 // A set of n tasks, in the first n slots.
 #[repr(C)]
 pub struct TaskSet {
     pub n: u32,
     pub tasks: [Task; 16],
 }
+
+// The set beside a refusal: it has no task.
+pub const NO_SET: TaskSet = TaskSet {
+    n: 0,
+    tasks: [NO_TASK; 16],
+};
 
 // An entry of a timetable.
 pub struct Entry {

@@ -7,15 +7,20 @@ use native.Mathlib.Omega.{arith}
 use borrow.Author.Tests.{le-leb, lt-leb}
 use lib.Dec.{leb}
 use lib.ListN.{length, length-take}
+use Rattle.rules.specs.declared.Task.{Task}
 use Rattle.rules.specs.declared.TaskSet.{TaskSet}
+use Rattle.rules.specs.declared.Figures.{Figures}
 use Rattle.rules.specs.declared.Refusal.{Refusal}
-use Rattle.rules.specs.declared.SetAnswer.the-variants.{Good, Refused}
+use Rattle.rules.specs.declared.SetAnswer.the-variants.{Refused}
 use Rattle.rules.specs.Refusals.{refusal, gives, or-else, first, unless}
-use Rattle.rules.specs.Tasks.{limits, sum-of-jobs, common-multiple, memory-set, few-enough, tasks-fault, figures, set-answer, judge-set, memory-fault}
+use Rattle.rules.specs.Tasks.{limits, KeepsItsRule, GoodSet, sum-of-jobs, common-multiple, memory-set, few-enough, tasks-fault, figures, set-answer, judge-set, memory-fault}
 use Rattle.rules.proofs.Cases.{by-option, both-in, clash}
-use Rattle.sets.specs.Sets.{capped}
-use Rattle.sets.proofs.Slots.{first-tasks}
+use Rattle.rules.proofs.Arrays.{task-in-slot}
+use Rattle.rules.proofs.GoodSets.{set-good}
+use Rattle.sets.specs.Sets.{capped, first-tasks, InSlots, HasCycle, limited, GoodInMemory}
+use Rattle.sets.proofs.Slots.{no-slot, slot}
 use Rattle.sets.proofs.Multiples.{told-within, told-long}
+use Rattle.sets.proofs.Faults.{own-rules}
 
 module _ (s : TaskSet) where
   -- no task
@@ -27,12 +32,6 @@ module _ (s : TaskSet) where
   pub refused-crowded : 1 ≤ s .n → limits .tasks < s .n → Refused (refusal 5 0) ≡ judge-set s
   unfolding judge-set
   refused-crowded l m = rw (le-leb 1 (s .n) l, lt-leb (s .n) (limits .tasks) m)
-
--- a set whose number of tasks passes its test
-pub record InSlots (s : TaskSet) : Type 0 where
-  pub some-tasks : 1 ≤ s .n
-  pub few-tasks : s .n ≤ limits .tasks
-  pub slots : length (s .tasks) ≡ limits .tasks
 
 module _ {s : TaskSet} (m : InSlots s) where
   -- it is judged by the tests after those of the number of tasks
@@ -57,19 +56,31 @@ module _ {s : TaskSet} (m : InSlots s) where
     pub refused-long : limits .ticks < h → Refused (refusal 8 0) ≡ judge-set s
     refused-long l = sym (judged ∙ rw (no-fault, lt-leb _ (limits .ticks) (told-long (common-multiple (first-tasks s)) (omega arith))))
 
-    module _ (short : h ≤ limits .ticks) (k : ℕ) (f : k ≡ sum-of-jobs h (first-tasks s)) where
-      -- h is the hyperperiod
-      is : common-multiple (first-tasks s) ≡ h
-      is = sym (e ∙ told-within (common-multiple (first-tasks s)) (omega arith))
+    -- and one up to it
+    pub has-cycle : h ≤ limits .ticks → HasCycle s h
+    has-cycle l = record {
+      in-slots = m;
+      faultless = no-fault;
+      ticks = e ∙ told-within (common-multiple (first-tasks s)) (omega arith);
+      short = l;
+    }
 
-      -- more jobs than the limit
-      pub refused-many : limits .jobs < k → Refused (refusal 9 0) ≡ judge-set s
-      refused-many l = sym (judged ∙ rw (no-fault, is, le-leb h (limits .ticks) short, ← f, lt-leb k (limits .jobs) l))
+-- a set that has a cycle is judged by its jobs
+pub by-jobs : {s : TaskSet} {h : ℕ} → HasCycle s h → (k : ℕ) → k ≡ sum-of-jobs h (first-tasks s) → limited h k ≡ judge-set s
+unfolding memory-set
+by-jobs {s} {h} g k e = sym (judged (g .in-slots) ∙ rw (g .faultless, ← g .ticks, le-leb h (limits .ticks) (g .short), ← e))
 
-      -- a good set
-      pub answered-good : k ≤ limits .jobs → Good (record { hyperperiod = h; jobs = k }) ≡ judge-set s
-      unfolding memory-set
-      answered-good l = sym (judged ∙ rw (no-fault, is, le-leb h (limits .ticks) short, ← f, le-leb k (limits .jobs) l))
+-- its tasks keep their own rules
+pub cycle-rules : {s : TaskSet} {h : ℕ} → HasCycle s h → (t : Task) (i : ℕ) → i < s .n → t ≡ slot (s .tasks) i → KeepsItsRule t
+unfolding memory-set
+cycle-rules {s} g t i l here =
+    let size : length (first-tasks s) ≡ s .n = simp length-take (omega arith) in
+    rw (here, ← task-in-slot s i no-slot (omega arith) l) (own-rules (first-tasks s) (g .faultless) i (omega arith))
+
+-- and where it is good, it is so with that cycle
+pub good-cycle : {s : TaskSet} {h : ℕ} {f : Figures} → HasCycle s h → GoodInMemory s f → GoodSet (memory-set s) h
+unfolding memory-set
+good-cycle {s} {h} {f} c g = rw (c .ticks, ← set-good (memory-set s) (f .hyperperiod) (g .good) .1) (g .good)
 
 -- a set that is refused has that fault
 pub refused-fault : (s : TaskSet) (r : Refusal) → Refused r ≡ judge-set s → memory-fault s ≡ some r

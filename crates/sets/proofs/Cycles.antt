@@ -8,17 +8,16 @@ use native.Mathlib.Nat.{div-le-self, div-zero, dvd-refl}
 use lib.ListN.{length, take, drop, length-take}
 use lib.Seq.{drop-cons}
 use Rattle.rules.specs.declared.Task.{Task}
-use Rattle.rules.specs.Tasks.{limits, no-task, set-with, task-in, jobs, sum-of-jobs, lcm, common-multiple, tasks-fault}
-use Rattle.rules.proofs.FirstTests.{none-holds}
-use Rattle.rules.proofs.GoodSets.{tasks-order, periods-positive}
+use Rattle.rules.specs.Tasks.{limits, no-task, task-in, jobs, sum-of-jobs, lcm, common-multiple, tasks-fault}
 use Rattle.rules.proofs.Hyperperiod.{Positive, lcm-left, lcm-positive, hyperperiod-positive}
 use Rattle.sets.specs.Sets.{capped}
 use Rattle.sets.proofs.Multiples.{capped-within, capped-above, told-above, told-within, lcm-above, lcm-of-multiple, lcm-of-one}
 use Rattle.sets.proofs.Slots.{slot, none-left, one-more}
+use Rattle.sets.proofs.Faults.{own-rules}
 
 -- tasks with no fault have periods of at least 1
 positive : (ts : List Task) → tasks-fault 1 0 ts ≡ none → Positive ts
-positive ts e = periods-positive (set-with ts) (none-holds (tasks-order (set-with ts) 0 (length ts) (omega arith)) e)
+positive ts e i l = let r = own-rules ts e i l in omega arith
 
 -- the hyperperiod of the tasks from a place on is not above that of them all
 hyperperiod-rest : (ts : List Task) → Positive ts → (i : ℕ) → common-multiple (drop i ts) ≤ common-multiple ts

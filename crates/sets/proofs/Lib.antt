@@ -5,5 +5,7 @@ pub mod Faults
 pub mod Cycles
 pub mod Answers
 pub mod Arrays
+pub mod Scans
 pub mod SetKept
+pub mod RowsKept
 pub mod Promises

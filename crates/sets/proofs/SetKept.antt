@@ -1,60 +1,47 @@
--- What is kept of a good set: rows that are filled task by task are those of the set. Assumes nothing.
-use mathlib.Core.Path.{_≡_, sym, _∙_, ap}
-use mathlib.Core.List.{List, map}
-use Prim.Native.Nat.{ℕ, _+_, _≤_, _<_}
+-- What is kept of a good set, as it is read from its rows: what stands in a task's slots, and that no sum of it is large. Assumes nothing.
+use mathlib.Core.Path.{_≡_, sym, _∙_}
+use Prim.Native.Nat.{ℕ, _+_, _-_, _≤_, _<_}
 use native.Mathlib.Omega.{arith}
-use lib.ListN.{length, getD, set, length-map, List·getD-map}
-use lib.Seq.{getD-take}
-use Rattle.rules.specs.declared.Task.{Task}
-use Rattle.rules.specs.declared.TaskSet.{TaskSet}
-use Rattle.rules.specs.declared.Figures.{Figures}
-use Rattle.rules.specs.Tasks.{limits, no-task, task, jobs, memory-set}
-use Rattle.rules.specs.Priority.{slot}
-use Rattle.rules.specs.Dispatcher.{zeros}
-use Rattle.rules.proofs.Arrays.{slot-element, inside-alike, memory-many}
-use Rattle.sets.specs.Sets.{GoodInMemory}
-use Rattle.sets.specs.Kept.{Keeps, slack-of, kept-of, Filled}
-use Rattle.sets.proofs.Arrays.{same-slots, filled-more}
+use native.Mathlib.Nat.{le-of-dvd}
+use lib.ListN.{getD}
+use Rattle.rules.specs.Tasks.{Set, largest-number, task, jobs, hyperperiod, GoodSet}
+use Rattle.rules.proofs.Arrays.{slot-element}
+use Rattle.rules.proofs.GoodSets.{good-set, set-good, good-rules, good-positive}
+use Rattle.sets.specs.Kept.{Rows, tasks-in, hyperperiod-in, jobs-in, slack-in, times-in, periods-in, first-in, Keeps}
 
--- a value of each task, such as its jobs a cycle
-module _ (value : Task → ℕ) (ts : List Task) where
-  -- a task's slot holds its value
-  pub value-in-slot : (i : ℕ) (d : Task) → i < length ts → slot (map value ts) i ≡ value (getD ts i d)
-  value-in-slot i d l =
-      slot-element (map value ts) i
-      ∙ inside-alike (map value ts) i 0 (value d) (omega (arith, length-map ts value))
-      ∙ List·getD-map value ts i d
+module _ {ts : Set} {kept : Rows} (keeps : Keeps ts kept) where
+  -- the hyperperiod that is kept is the one worked out
+  pub kept-cycle : hyperperiod-in kept ≡ hyperperiod ts
+  kept-cycle = set-good ts (hyperperiod-in kept) (keeps .good) .1
 
-  -- an array that is filled with them up to a slot
-  abbrev pub ValuesTo : ℕ → List ℕ → Type 0
-  ValuesTo i now = Filled zeros (slot (map value ts)) 0 i now
+  -- with which the set is good
+  pub kept-good : GoodSet ts (hyperperiod ts)
+  kept-good = good-set ts (set-good ts (hyperperiod-in kept) (keeps .good) .0)
 
-  -- with one more stored
-  pub value-more : {i : ℕ} {now : List ℕ} → ValuesTo i now → length ts ≡ limits .tasks → i < limits .tasks → (d : Task) →
-      ValuesTo (i + 1) (set now i (value (getD ts i d)))
-  value-more {i} f slots l d = filled-more f _ (omega arith) (omega arith) (sym (value-in-slot i d (omega arith)))
+  module _ (i : ℕ) (l : i < tasks-in kept) where
+    -- a task's slots hold its jobs a cycle, D − C, C, T and O
+    pub jobs-kept : getD (jobs-in kept) i 0 ≡ jobs (hyperperiod-in kept) (task ts i)
+    jobs-kept = sym (slot-element (jobs-in kept) i) ∙ keeps .jobs-there i l
 
-  -- with all
-  pub values-all : {i : ℕ} {now : List ℕ} → ValuesTo i now → length ts ≡ limits .tasks → limits .tasks ≤ i → now ≡ map value ts
-  values-all {i} {now} f slots l =
-      same-slots now (map value ts) (f .slots ∙ omega (arith, length-map ts value)) (λ k m. f .inside k (omega arith) (omega (arith, f .slots)))
+    pub slack-kept : getD (slack-in kept) i 0 ≡ task ts i .deadline - task ts i .time
+    slack-kept = sym (slot-element (slack-in kept) i) ∙ keeps .slack-there i l
 
--- a value of task i of a set stands in slot i
-pub in-slot : (s : TaskSet) (value : Task → ℕ) (i : ℕ) → i < length (s .tasks) → i < s .n →
-    slot (map value (s .tasks)) i ≡ value (task (memory-set s) i)
-unfolding memory-set
-in-slot s value i inside l =
-    value-in-slot value (s .tasks) i no-task inside ∙ ap value (sym (getD-take (s .n) (s .tasks) i no-task l))
+    pub time-kept : getD (times-in kept) i 0 ≡ task ts i .time
+    time-kept = sym (slot-element (times-in kept) i) ∙ keeps .times-there i l
 
--- the rows of a good set with its figures are kept of it
-pub good-kept : {s : TaskSet} {f : Figures} → GoodInMemory s f → s .n ≤ length (s .tasks) → Keeps (memory-set s) (kept-of s f)
-good-kept {s} {f} g room = record {
-  good = g .good;
-  n-tasks = sym (memory-many s room);
-  few = g .few-tasks;
-  all-there = g .counted;
-  jobs-there = λ i l. in-slot s (jobs (f .hyperperiod)) i (omega arith) l;
-  slack-there = λ i l. in-slot s slack-of i (omega arith) l;
-  times-there = λ i l. in-slot s (λ (t : Task). t .time) i (omega arith) l;
-  periods-there = λ i l. in-slot s (λ (t : Task). t .period) i (omega arith) l;
-}
+    pub period-kept : getD (periods-in kept) i 0 ≡ task ts i .period
+    period-kept = sym (slot-element (periods-in kept) i) ∙ keeps .periods-there i l
+
+    pub first-kept : getD (first-in kept) i 0 ≡ task ts i .offset
+    first-kept = sym (slot-element (first-in kept) i) ∙ keeps .first-there i l
+
+    -- a period is no longer than the cycle
+    pub period-short : task ts i .period ≤ hyperperiod-in kept
+    period-short =
+        let good = keeps .good in
+        let divides = good .is-hyperperiod .common i (omega (arith, keeps .n-tasks)) in
+        le-of-dvd {m = task ts i .period} {n = hyperperiod-in kept} (good-positive good) divides
+
+    -- the end of the cycle and D − C together fit 32 bits
+    pub slack-short : hyperperiod-in kept + getD (slack-in kept) i 0 ≤ largest-number
+    slack-short = omega (arith, slack-kept, period-short, good-rules (keeps .good) i .within, keeps .good .short)

@@ -7,11 +7,6 @@ use native.Mathlib.Numerals.{add-one}
 use lib.ListN.{length, take, drop, getD, length-take, drop-of-length-le}
 use lib.Seq.{slice-cons}
 use Rattle.rules.specs.declared.Task.{Task}
-use Rattle.rules.specs.declared.TaskSet.{TaskSet}
-
--- the first n tasks of a set
-abbrev pub first-tasks : TaskSet → List Task
-first-tasks s = take (s .n) (s .tasks)
 
 -- what stands for a task past the last slot
 abbrev pub no-slot : Task

@@ -1,13 +1,21 @@
 -- What the functions of this crate answer, in the rule book's terms, and a good set as it lies in memory. Assumes nothing.
 use mathlib.Core.Path.{_≡_}
+use mathlib.Core.List.{List}
 use mathlib.Core.Option.{Option, none, some}
 use Prim.Native.Nat.{ℕ, zero, suc, _≤_}
 use lib.Dec.{leb}
+use lib.ListN.{length, take}
+use Rattle.rules.specs.declared.Task.{Task}
 use Rattle.rules.specs.declared.TaskSet.{TaskSet}
 use Rattle.rules.specs.declared.Figures.{Figures}
 use Rattle.rules.specs.declared.Refusal.{Refusal}
+use Rattle.rules.specs.declared.SetAnswer.{SetAnswer}
+use Rattle.rules.specs.declared.SetAnswer.the-variants as set-case
+use Rattle.rules.specs.Refusals.{gives, or-else, unless}
 use Rattle.rules.specs.Timetable.{pick}
-use Rattle.rules.specs.Tasks.{limits, all-jobs, GoodSet, memory-set}
+use Rattle.rules.specs.Tasks.{limits, common-multiple, all-jobs, GoodSet, tasks-fault, memory-set, set-answer, judge-set}
+use Rattle.sets.specs.declared.Cycle.{Cycle}
+use Rattle.sets.specs.declared.Cycle.the-variants as cycle-case
 
 -- a number of ticks up to the limit, or one above it
 abbrev pub capped : ℕ → ℕ
@@ -20,6 +28,32 @@ fault-in r (suc number) = some r
 
 unfoldable pub FirstFault : Option Refusal → Refusal → Type 0
 FirstFault o r = fault-in r (r .number) ≡ o
+
+-- the first n tasks of a set
+abbrev pub first-tasks : TaskSet → List Task
+first-tasks s = take (s .n) (s .tasks)
+
+-- 1 to 16 tasks, in the first of sixteen slots
+pub record InSlots (s : TaskSet) : Type 0 where
+  pub some-tasks : 1 ≤ s .n
+  pub few-tasks : s .n ≤ limits .tasks
+  pub slots : length (s .tasks) ≡ limits .tasks
+
+-- a set that 5 to 8 pass, with its hyperperiod
+pub record HasCycle (s : TaskSet) (h : ℕ) : Type 0 where
+  pub in-slots : InSlots s
+  pub faultless : tasks-fault 1 0 (first-tasks s) ≡ none
+  pub ticks : h ≡ common-multiple (first-tasks s)
+  pub short : h ≤ limits .ticks
+
+-- what is told of a set's cycle: its hyperperiod, or the set's refusal
+abbrev pub CycleTold : TaskSet → Cycle → Type 0
+CycleTold s (cycle-case.Ticks h) = HasCycle s h
+CycleTold s (cycle-case.Refused r) = set-case.Refused r ≡ judge-set s
+
+-- the answer to a set that 5 to 8 pass, by its hyperperiod and its jobs: 9 where these are above the limit
+abbrev pub limited : ℕ → ℕ → SetAnswer
+limited h jobs = set-answer (or-else (unless (leb jobs (limits .jobs)) 9 0) (gives (record { hyperperiod = h; jobs = jobs })))
 
 -- 1 to 16 tasks, in the first slots, that are a good set with these figures
 pub record GoodInMemory (s : TaskSet) (f : Figures) : Type 0 where

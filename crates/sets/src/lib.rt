@@ -1,5 +1,6 @@
-// Task sets judged: 5 to 9 in document 01's order, with the places that the set's records would have. And what a good set is asked for: jobs of a task,
-// releases and deadlines, and the rows that are kept of it. Exact for any 32-bit numbers: no sum or product wraps.
+// Task sets judged: 5 to 9 in document 01's order, with the places that the set's records would have, and the rows that are kept of a good one. And what a
+// good set is asked for: jobs of a task, releases and deadlines; with scans of the slots of its tasks. Exact for any 32-bit numbers: no sum or product wraps.
+use numbers::TASK_NUMBERS;
 use rules::Figures;
 use rules::Refusal;
 use rules::SetAnswer;
@@ -7,14 +8,15 @@ use rules::Task;
 use rules::TaskSet;
 ghost use mathlib.Core.Path.{_≡_};
 ghost use mathlib.Core.Option.{none};
-ghost use Prim.Native.Nat.{suc, _+_, _-_, _≤_, _<_};
+ghost use Prim.Native.Nat.{suc, _+_, max, _≤_};
 ghost use lib.ListN.{length};
 ghost use Rattle.rules.specs.Tasks as book;
 ghost use Rattle.numbers.specs.Numbers.{tasks-from, set-from};
-ghost use Rattle.sets.specs.Sets.{capped, FirstFault};
-ghost use Rattle.sets.specs.Kept.{kept-of};
+ghost use Rattle.sets.specs.Sets.{capped, FirstFault, HasCycle, CycleTold, limited};
+ghost use Rattle.sets.specs.Kept.{InRows, Keeps, JudgedKept};
+ghost use Rattle.sets.specs.Scans.{lowest-below, least-of};
 
-// What is kept of a set, in rows of sixteen slots: its figures, and of each task the jobs a cycle, D − C, C and T.
+// What is kept of a set, in rows of sixteen slots: its figures, and of each task the jobs a cycle, D − C, C, T and the release of its first job, which is O.
 pub const FIGURES: usize = 0;
 
 pub const JOBS: usize = 1;
@@ -24,6 +26,8 @@ pub const SLACK: usize = 2;
 pub const TIMES: usize = 3;
 
 pub const PERIODS: usize = 4;
+
+pub const FIRST: usize = 5;
 
 // The slots of its figures: how many tasks, the hyperperiod, and the jobs of all tasks a cycle.
 pub const TASKS: usize = 0;
@@ -91,7 +95,7 @@ fn tasks_fault(n: usize, numbers: &[u32], at: usize) -> Refusal
                 place: 0,
             };
         }
-        let t = numbers::task_from(numbers, at + 4 * i);
+        let t = numbers::task_from(numbers, at + TASK_NUMBERS * i);
         if !keeps_its_rule(t) {
             break 'tasks Refusal {
                 number: 6,
@@ -156,14 +160,14 @@ fn hyperperiod(n: usize, numbers: &[u32], at: usize) -> u32
     ensures { λ r. ⌜ r ≡ capped (book.common-multiple (tasks-from n (now (numbers .entry)) at)) ⌝ }
 {
     let mut i = n - 1;
-    let mut after = numbers::task_from(numbers, at + 4 * i).period;
+    let mut after = numbers::task_from(numbers, at + TASK_NUMBERS * i).period;
     if 65535 < after {
         return 65536;
     }
     let mut h = after;
     while 0 < i {
         i -= 1;
-        let t = numbers::task_from(numbers, at + 4 * i);
+        let t = numbers::task_from(numbers, at + TASK_NUMBERS * i);
         if t.period != after {
             h = common_multiple(t.period, h);
             if 65535 < h {
@@ -188,7 +192,7 @@ fn all_jobs(h: u32, n: usize, numbers: &[u32], at: usize) -> u32
     let mut many: u32 = 0;
     while 0 < i {
         i -= 1;
-        let t = numbers::task_from(numbers, at + 4 * i);
+        let t = numbers::task_from(numbers, at + TASK_NUMBERS * i);
         if t.period != after {
             many = jobs(h, t);
             after = t.period;
@@ -198,13 +202,19 @@ fn all_jobs(h: u32, n: usize, numbers: &[u32], at: usize) -> u32
     sum
 }
 
-// The set that the 64 numbers from a place on are, judged: its hyperperiod and its jobs a cycle, or the first refusal of 5 to 9.
-pub fn judge_numbers(n: u32, numbers: &[u32], at: usize) -> SetAnswer
+// What 5 to 8 leave of a set: the ticks of its cycle, or the first refusal.
+enum Cycle {
+    Ticks(u32),
+    Refused(Refusal),
+}
+
+// The hyperperiod of the set that the 64 numbers from a place on are, or the first refusal of 5 to 8.
+fn judge_cycle(n: u32, numbers: &[u32], at: usize) -> Cycle
     requires { ⌜ at + 64 ≤ length (now numbers) ⌝ }
-    ensures { λ r. ⌜ r ≡ book.judge-set (set-from n (now (numbers .entry)) at) ⌝ }
+    ensures { λ r. ⌜ CycleTold (set-from n (now (numbers .entry)) at) r ⌝ }
 {
     if n < 1 || 16 < n {
-        return SetAnswer::Refused(Refusal {
+        return Cycle::Refused(Refusal {
             number: 5,
             place: 0,
         });
@@ -212,16 +222,22 @@ pub fn judge_numbers(n: u32, numbers: &[u32], at: usize) -> SetAnswer
     let many = n as usize;
     let fault = tasks_fault(many, numbers, at);
     if fault.number != 0 {
-        return SetAnswer::Refused(fault);
+        return Cycle::Refused(fault);
     }
     let h = hyperperiod(many, numbers, at);
     if 65535 < h {
-        return SetAnswer::Refused(Refusal {
+        return Cycle::Refused(Refusal {
             number: 8,
             place: 0,
         });
     }
-    let jobs = all_jobs(h, many, numbers, at);
+    Cycle::Ticks(h)
+}
+
+// The answer to a set that 5 to 8 pass, by its hyperperiod and its jobs a cycle: 9 where these are above the limit.
+fn limited(h: u32, jobs: u32) -> SetAnswer
+    ensures { λ r. ⌜ r ≡ limited h jobs ⌝ }
+{
     if 4096 < jobs {
         return SetAnswer::Refused(Refusal {
             number: 9,
@@ -234,45 +250,110 @@ pub fn judge_numbers(n: u32, numbers: &[u32], at: usize) -> SetAnswer
     })
 }
 
-// A set in memory judged.
-pub fn judge_set(s: TaskSet) -> SetAnswer
-    ensures { λ r. ⌜ r ≡ book.judge-set s ⌝ }
+// The set that the 64 numbers from a place on are, judged: its hyperperiod and its jobs a cycle, or the first refusal of 5 to 9.
+pub fn judge_numbers(n: u32, numbers: &[u32], at: usize) -> SetAnswer
+    requires { ⌜ at + 64 ≤ length (now numbers) ⌝ }
+    ensures { λ r. ⌜ r ≡ book.judge-set (set-from n (now (numbers .entry)) at) ⌝ }
 {
+    match judge_cycle(n, numbers, at) {
+        Cycle::Refused(r) => SetAnswer::Refused(r),
+        Cycle::Ticks(h) => limited(h, all_jobs(h, n as usize, numbers, at)),
+    }
+}
+
+// Fills what is kept of a set of n tasks with a cycle of h ticks, and answers the jobs of all its tasks; divided once for tasks of one period that stand
+// together.
+fn keep(h: u32, n: usize, numbers: &[u32], at: usize, kept: &mut [[u32; 16]; 6]) -> u32
+    requires cycle { ⌜ HasCycle (set-from n (now numbers) at) h ⌝ }
+    requires inside { ⌜ at + 64 ≤ length (now numbers) ⌝ }
+    requires rows { ⌜ InRows (now kept) ⌝ }
+    ensures jobs { λ r. ⌜ r ≡ book.sum-of-jobs h (tasks-from n (now (numbers .entry)) at) ⌝ }
+    ensures filled { λ _. ⌜ (book.GoodSet (book.memory-set (set-from n (now (numbers .entry)) at)) h →
+        Keeps (book.memory-set (set-from n (now (numbers .entry)) at)) (now (kept .exit))) ⌝ }
+{
+    let mut i = n;
+    let mut all: u32 = 0;
+    let mut after: u32 = 0;
+    let mut many: u32 = 0;
+    while 0 < i {
+        i -= 1;
+        let t = numbers::task_from(numbers, at + TASK_NUMBERS * i);
+        if t.period != after {
+            many = jobs(h, t);
+            after = t.period;
+        }
+        kept[JOBS][i] = many;
+        kept[SLACK][i] = t.deadline - t.time;
+        kept[TIMES][i] = t.time;
+        kept[PERIODS][i] = t.period;
+        kept[FIRST][i] = t.offset;
+        all += many;
+    }
+    kept[FIGURES][TASKS] = n as u32;
+    kept[FIGURES][HYPERPERIOD] = h;
+    kept[FIGURES][ALL_JOBS] = all;
+    all
+}
+
+// The set that the 64 numbers from a place on are, judged as by judge_numbers; where it is good, what is kept of it is filled.
+pub fn judge_kept(n: u32, numbers: &[u32], at: usize, kept: &mut [[u32; 16]; 6]) -> SetAnswer
+    requires inside { ⌜ at + 64 ≤ length (now numbers) ⌝ }
+    requires rows { ⌜ InRows (now kept) ⌝ }
+    ensures { λ r. ⌜ JudgedKept (set-from n (now (numbers .entry)) at) r (now (kept .exit)) ⌝ }
+{
+    match judge_cycle(n, numbers, at) {
+        Cycle::Refused(r) => SetAnswer::Refused(r),
+        Cycle::Ticks(h) => limited(h, keep(h, n as usize, numbers, at, kept)),
+    }
+}
+
+// A set in memory judged; where it is good, what is kept of it is filled, into rows of zeros.
+pub fn judge_set(s: TaskSet, kept: &mut [[u32; 16]; 6]) -> SetAnswer
+    ensures { λ r. ⌜ JudgedKept s r (now (kept .exit)) ⌝ }
+{
+    *kept = [[0u32; 16]; 6];
     let mut numbers = [0u32; 64];
     numbers::put_tasks(&mut numbers, 0, s);
-    judge_numbers(s.n, &numbers, 0)
+    judge_kept(s.n, &numbers, 0, kept)
 }
 
-// D − C of a task: how long after its release a job may start at the latest. 0 where the deadline is the shorter.
-fn slack(t: Task) -> u32
-    ensures { λ r. ⌜ r ≡ t .deadline - t .time ⌝ }
+// The lowest of n tasks whose next release is before the end of the cycle, n where there is none.
+pub fn missing(n: usize, h: u32, release: &[u32; 16]) -> usize
+    requires { ⌜ n ≤ 16 ⌝ }
+    ensures { λ r. ⌜ r ≡ lowest-below n 0 h (now (release .entry)) ⌝ }
 {
-    if t.deadline < t.time {
-        return 0;
-    }
-    t.deadline - t.time
-}
-
-// What is kept of a set with its figures.
-pub fn keep(s: TaskSet, f: Figures) -> [[u32; 16]; 5]
-    ensures { λ r. ⌜ r ≡ kept-of s f ⌝ }
-{
-    let mut figures = [0u32; 16];
-    figures[TASKS] = s.n;
-    figures[HYPERPERIOD] = f.hyperperiod;
-    figures[ALL_JOBS] = f.jobs;
-    let mut many = [0u32; 16];
-    let mut slacks = [0u32; 16];
-    let mut times = [0u32; 16];
-    let mut periods = [0u32; 16];
     let mut i: usize = 0;
-    while i < 16 {
-        let t = s.tasks[i];
-        many[i] = jobs(f.hyperperiod, t);
-        slacks[i] = slack(t);
-        times[i] = t.time;
-        periods[i] = t.period;
+    while i < n {
+        if release[i] < h {
+            return i;
+        }
         i += 1;
     }
-    [figures, many, slacks, times, periods]
+    n
+}
+
+// The least of n numbers and a bound.
+pub fn least(n: usize, bound: u32, numbers: &[u32; 16]) -> u32
+    requires { ⌜ n ≤ 16 ⌝ }
+    ensures { λ r. ⌜ r ≡ least-of n bound (now (numbers .entry)) ⌝ }
+{
+    let mut least = bound;
+    let mut i: usize = 0;
+    while i < n {
+        if numbers[i] < least {
+            least = numbers[i];
+        }
+        i += 1;
+    }
+    least
+}
+
+// The later of two instants.
+pub fn later(a: u32, b: u32) -> u32
+    ensures { λ r. ⌜ r ≡ max a b ⌝ }
+{
+    if a < b {
+        return b;
+    }
+    a
 }

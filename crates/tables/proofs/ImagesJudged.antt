@@ -33,10 +33,9 @@ use Rattle.rules.proofs.StandingTables.{read-stand}
 use Rattle.rules.proofs.Arrays.{memory-many}
 use Rattle.sets.specs.Sets.{FirstFault}
 use Rattle.sets.specs.Kept.{Rows, tasks-in as kept-tasks, hyperperiod-in, Keeps}
-use Rattle.sets.proofs.SetKept.{good-kept}
+use Rattle.sets.proofs.SetKept.{kept-cycle}
 use Rattle.sets.proofs.Faults.{told-none, told-fault}
 use Rattle.sets.proofs.Answers.{refused-fault}
-use Rattle.sets.proofs.Promises.{good-exactly}
 use Rattle.framing.specs.declared.FrameAnswer.{FrameAnswer}
 use Rattle.framing.specs.declared.FrameAnswer.the-variants as frame-case
 use Rattle.framing.specs.SetRead.{set-read}
@@ -50,7 +49,7 @@ use Rattle.records.proofs.RecordsRead.{idles-length, inversions-length, tables-
 use Rattle.records.proofs.OffsetsTold.{tasks-below}
 use Rattle.tables.specs.declared.Tables.{Tables as Judgement}
 use Rattle.tables.specs.Replayed.{RefusalTold, CanCompare}
-use Rattle.tables.specs.Judged.{SetStands, refused-with, Good, JudgedAs}
+use Rattle.tables.specs.Judged.{SetStands, refused-with, JudgedAs}
 
 -- what refuses an image has a number
 numbered : (bytes : List ℕ) (r : Refusal) → rebuilt bytes ≡ refuses r → r .number ≡ 0 → ⊥
@@ -138,16 +137,13 @@ module _ {bytes : List ℕ} {s : TaskSet} {kept : Rows} {l : Layout} (b : Bytes 
   abbrev X : Tables
   X = its-tables bytes s l
 
-  -- there are n tasks, and they lie in the set's slots
+  -- there are n tasks
   tasks-many : length (memory-set s .tasks) ≡ s .n
   tasks-many = its-tasks-many bytes b (st .framed) (st .set-is)
 
-  set-room : s .n ≤ length (s .tasks)
-  set-room = omega (arith, few bytes b (st .framed) (st .set-is), slots bytes b (st .framed) (st .set-is))
-
   -- what is kept is kept of the set: its number of tasks and its hyperperiod are there
   keeps : Keeps (memory-set s) kept
-  keeps = rw (st .kept-is) (good-kept (good-exactly s (set-case.Good (st .figures)) (st .good) (st .figures) .0 refl) set-room)
+  keeps = st .keeps
 
   n-is : kept-tasks kept ≡ s .n
   n-is = keeps .n-tasks ∙ tasks-many
@@ -156,7 +152,7 @@ module _ {bytes : List ℕ} {s : TaskSet} {kept : Rows} {l : Layout} (b : Bytes 
   no-fault = set-good (memory-set s) (hyperperiod-in kept) (keeps .good) .0
 
   cycle-is : hyperperiod-in kept ≡ hyperperiod (memory-set s)
-  cycle-is = set-good (memory-set s) (hyperperiod-in kept) (keeps .good) .1
+  cycle-is = kept-cycle keeps
 
   -- its records can be judged
   pub can-judge : CanJudge bytes kept (l .listed) (l .inversions)
@@ -197,7 +193,7 @@ module _ {bytes : List ℕ} {s : TaskSet} {kept : Rows} {l : Layout} (b : Bytes 
 
       module _ (first : OffsetsOf) (offsets-are : (ts : Set) → length (ts .tasks) ≡ s .n → first ≡ first-offsets ts X) where
         -- its tables can be replayed
-        pub can-compare : CanCompare bytes s kept (l .listed) first
+        pub can-compare : CanCompare (memory-set s) bytes kept (l .listed) first
         can-compare = record {
           can = record {
             tables = X;

@@ -7,11 +7,10 @@ use native.Mathlib.Omega.{arith}
 use lib.ListN.{length}
 use borrow.Author.Tests.{lt-ltb, le-ltb}
 use Rattle.fields.specs.Number.{Bytes}
-use Rattle.rules.specs.declared.TaskSet.{TaskSet}
 use Rattle.rules.specs.declared.Entry.{Entry}
 use Rattle.rules.specs.declared.Offsets.{Offsets as OffsetsOf}
 use Rattle.rules.specs.Refusals.{Judged, gives, refuses, refusal, then, refusal-in}
-use Rattle.rules.specs.Tasks.{Set, limits, memory-set}
+use Rattle.rules.specs.Tasks.{Set}
 use Rattle.rules.specs.Setting.{Tables}
 use Rattle.rules.specs.Judging.{judge-tables}
 use Rattle.rules.specs.Marks.{ID, PV, size, head-count-of}
@@ -42,17 +41,14 @@ refusal-through (gives a) next = refl
 refusal-through (refuses r) next = refl
 
 -- an image that may be replayed, and what replay of its cycle comes to
-module _ {bytes : List ℕ} {s : TaskSet} {kept : Rows} {idles : ℕ} {first : OffsetsOf} (are-bytes : Bytes bytes)
-    (slots : length (s .tasks) ≡ limits .tasks) (given : CanCompare bytes s kept idles first) where
-  -- the tasks, the tables that are replayed, and the run through the cycle
-  abbrev ts : Set
-  ts = memory-set s
-
+module _ {ts : Set} {bytes : List ℕ} {kept : Rows} {idles : ℕ} {first : OffsetsOf} (are-bytes : Bytes bytes)
+    (given : CanCompare ts bytes kept idles first) where
+  -- the tables that are replayed, and the run through the cycle
   abbrev X : Tables
   X = given .can .tables
 
   abbrev run : Ends
-  run = cycle-of bytes s first
+  run = cycle-of ts bytes kept first
 
   -- the image comes to what judging the tables comes to
   image-told : refusal-in (rebuilt bytes) ≡ refusal-in (judge-tables ts X)
@@ -71,11 +67,11 @@ module _ {bytes : List ℕ} {s : TaskSet} {kept : Rows} {idles : ℕ} {first : O
 
   -- the cycle is stuck: 18 at the number of starts
   pub replay-at-late : (number : ℕ) → run .last ≡ Stuck number → RefusalTold (rebuilt bytes) (refusal 18 (length (run .entries)))
-  replay-at-late number e = refused-so 17 (length (run .entries)) (cycle-stuck are-bytes slots (given .can) number e)
+  replay-at-late number e = refused-so 17 (length (run .entries)) (cycle-stuck are-bytes (given .can) number e)
 
   -- the tables stand in the image
   stand : Stand bytes ts X (records-before ts X)
-  stand = cycle-stand are-bytes slots (given .can)
+  stand = cycle-stand are-bytes (given .can)
 
   -- the first ID, PV or EN is behind the tasks
   first-idle : first .idle ≡ head-length ts
@@ -88,7 +84,7 @@ module _ {bytes : List ℕ} {s : TaskSet} {kept : Rows} {idles : ℕ} {first : O
   module _ (f : Found) (e : run .last ≡ Starts f) where
     -- all starts are found: where replay ended
     done : CycleDone bytes ts X (run .entries) (f .idle) (run .wasted)
-    done = cycle-done are-bytes slots (given .can) f e
+    done = cycle-done are-bytes (given .can) f e
 
     -- where the offsets lie then
     pub replay-at-ends : Ended (head-count-of (tasks-in kept)) idles (first .idle) (f .idle) (run .wasted)

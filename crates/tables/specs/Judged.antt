@@ -5,19 +5,17 @@ use Prim.Native.Nat.{ℕ, _-_, _≤_}
 use lib.ListN.{length, replicate}
 use Rattle.rules.specs.declared.TaskSet.{TaskSet}
 use Rattle.rules.specs.declared.Entry.{Entry}
-use Rattle.rules.specs.declared.Figures.{Figures}
 use Rattle.rules.specs.declared.Layout.{Layout}
 use Rattle.rules.specs.declared.Refusal.{Refusal}
-use Rattle.rules.specs.declared.SetAnswer.the-variants as set-case
 use Rattle.rules.specs.Refusals.{gives, refuses, refusal}
-use Rattle.rules.specs.Tasks.{limits, judge-set, memory-set}
+use Rattle.rules.specs.Tasks.{limits, memory-set}
 use Rattle.rules.specs.Setting.{Tables}
 use Rattle.rules.specs.Judging.{judge-tables}
 use Rattle.rules.specs.Framing.{frame}
 use Rattle.rules.specs.Offsets.{first-offsets}
 use Rattle.rules.specs.Operations.{read-tables, rebuilt}
-use Rattle.rules.specs.Dispatcher.{zero-task, zero-offsets}
-use Rattle.sets.specs.Kept.{Rows, Keeps, kept-of}
+use Rattle.rules.specs.Dispatcher.{zero-task, zero-set, zero-offsets}
+use Rattle.sets.specs.Kept.{Rows, Keeps}
 use Rattle.framing.specs.SetRead.{set-read}
 use Rattle.tables.specs.declared.Tables.{Tables as Judgement}
 
@@ -25,13 +23,11 @@ use Rattle.tables.specs.declared.Tables.{Tables as Judgement}
 pub record SetStands (bytes : List ℕ) (s : TaskSet) (kept : Rows) (l : Layout) : Type 0 where
   pub framed : frame 2 bytes ≡ gives l
   pub set-is : s ≡ set-read (l .tasks) bytes
-  pub figures : Figures
-  pub good : set-case.Good figures ≡ judge-set s
-  pub kept-is : kept ≡ kept-of s figures
+  pub keeps : Keeps (memory-set s) kept
 
 -- beside a refusal all is zero
 abbrev pub refused-with : Refusal → Judgement
-refused-with r = record { refusal = r; set = record { n = 0; tasks = replicate (limits .tasks) zero-task }; first = zero-offsets }
+refused-with r = record { refusal = r; set = zero-set; first = zero-offsets }
 
 -- an accepted image: its set, with zero slots behind the tasks, what is kept of it, its tables and the timetable behind them, and its first offsets
 pub record Good (bytes : List ℕ) (t : Judgement) (kept : Rows) : Type 0 where

@@ -4,14 +4,13 @@ use mathlib.Core.List.{List}
 use Prim.Native.Nat.{ℕ, _+_, _*_, _-_, _/_, _≤_, _<_}
 use lib.Dec.{ltb}
 use lib.ListN.{length}
-use Rattle.rules.specs.declared.TaskSet.{TaskSet}
 use Rattle.rules.specs.declared.Offsets.{Offsets as OffsetsOf}
 use Rattle.rules.specs.declared.Refusal.{Refusal}
 use Rattle.rules.specs.Refusals.{Judged, refusal, refusal-in}
 use Rattle.rules.specs.Timetable.{pick}
 use Rattle.rules.specs.Marks.{ID, PV, size, head-count-of}
 use Rattle.rules.specs.Offsets.{last-offset}
-use Rattle.rules.specs.Tasks.{limits}
+use Rattle.rules.specs.Tasks.{Set, limits}
 use Rattle.sets.specs.Sets.{FirstFault}
 use Rattle.sets.specs.Kept.{Rows}
 use Rattle.replay.specs.Runs.{CanReplay}
@@ -39,6 +38,6 @@ unused-at before idles first idle wasted =
     (pick (ltb wasted last-offset) (refusal 19 (before + idles + (wasted - behind-idles first idles) / size PV)) (refusal 0 0))
 
 -- what may be replayed, and how many ID records its tables have
-pub record CanCompare (bytes : List ℕ) (s : TaskSet) (kept : Rows) (idles : ℕ) (first : OffsetsOf) : Type 0 where
-  pub can : CanReplay bytes s kept first
+pub record CanCompare (ts : Set) (bytes : List ℕ) (kept : Rows) (idles : ℕ) (first : OffsetsOf) : Type 0 where
+  pub can : CanReplay ts bytes kept first
   pub idle-records : idles ≡ length (can .tables .idles)

@@ -6,14 +6,15 @@ use images::IDLE_SIZE;
 use images::INVERSION_SIZE;
 use rules::CheckAnswer;
 use rules::Layout;
+use rules::NO_SET;
 use rules::Offsets;
 use rules::Refusal;
 use rules::SetAnswer;
-use rules::Task;
 use rules::TaskSet;
 use sets::FIGURES;
 use sets::TASKS;
 ghost use mathlib.Core.Path.{_≡_};
+ghost use Rattle.rules.specs.Tasks.{Set};
 ghost use Rattle.rules.specs.Operations.{rebuilt, check-tables};
 ghost use Rattle.tables.specs.Replayed.{RefusalTold, Ended, unused-at, CanCompare};
 ghost use Rattle.tables.specs.Judged.{SetStands, refused-with, JudgedAs};
@@ -45,19 +46,13 @@ fn unused(before: usize, idles: usize, first: u32, idle: u32, wasted: u32) -> Re
 }
 
 // Replay through one cycle, refused with 18 at a start that would be late; then 19. Number 0 where nothing is wrong.
-fn replay_fault(
-    image: &[u8],
-    s: TaskSet,
-    kept: &[[u32; 16]; 5],
-    idles: usize,
-    first: Offsets,
-) -> Refusal
-    requires { ⌜ CanCompare (now image) s (now kept) idles first ⌝ }
+fn replay_fault(image: &[u8], kept: &[[u32; 16]; 6], idles: usize, first: Offsets) -> Refusal
+    requires { ⌜ ((ts : Set) × CanCompare ts (now image) (now kept) idles first) ⌝ }
     ensures { λ r. ⌜ RefusalTold (rebuilt (now (image .entry))) r ⌝ }
 {
     let before = images::head_count(kept[FIGURES][TASKS] as usize);
     let mut nowhere = [0u8; 0];
-    let run = replay::cycle(image, s, kept, first, &mut nowhere, 0);
+    let run = replay::cycle(image, kept, first, &mut nowhere);
     let last = run.last;
     match last {
         NextStart::Stuck(_) => Refusal {
@@ -79,13 +74,7 @@ pub struct Tables {
 fn refused(refusal: Refusal) -> Tables
     ensures { λ t. ⌜ t ≡ refused-with refusal ⌝ }
 {
-    let tasks = [Task {
-        offset: 0,
-        time: 0,
-        period: 0,
-        deadline: 0,
-    }; 16];
-    let set = TaskSet { n: 0, tasks };
+    let set = NO_SET;
     let inversions = [0u32; 16];
     let first = Offsets {
         idle: 0,
@@ -99,7 +88,7 @@ fn refused(refusal: Refusal) -> Tables
 }
 
 // 17, 18 and 19 of a framed image with a good set.
-fn judge_records(image: &[u8], set: TaskSet, kept: &[[u32; 16]; 5], l: Layout) -> Tables
+fn judge_records(image: &[u8], set: TaskSet, kept: &[[u32; 16]; 6], l: Layout) -> Tables
     requires { ⌜ SetStands (now image) set (now kept) l ⌝ }
     ensures { λ t. ⌜ JudgedAs (now (image .entry)) t (now (kept .entry)) ⌝ }
 {
@@ -109,7 +98,7 @@ fn judge_records(image: &[u8], set: TaskSet, kept: &[[u32; 16]; 5], l: Layout) -
     }
     let n = set.n as usize;
     let first = records::first_offsets(image, n, l.listed, l.inversions);
-    let refusal = replay_fault(image, set, kept, l.listed, first);
+    let refusal = replay_fault(image, kept, l.listed, first);
     if refusal.number != 0 {
         return refused(refusal);
     }
@@ -121,19 +110,16 @@ fn judge_records(image: &[u8], set: TaskSet, kept: &[[u32; 16]; 5], l: Layout) -
 }
 
 // A table image judged. What is kept of its set is filled in where it is good.
-pub fn judge(image: &[u8], kept: &mut [[u32; 16]; 5]) -> Tables
+pub fn judge(image: &[u8], kept: &mut [[u32; 16]; 6]) -> Tables
     ensures { λ t. ⌜ JudgedAs (now (image .entry)) t (now (kept .exit)) ⌝ }
 {
     match framing::frame(image) {
         FrameAnswer::Refused(refusal) => refused(refusal),
         FrameAnswer::Framed(l) => {
             let set = framing::read_set(image, l.tasks);
-            match sets::judge_set(set) {
+            match sets::judge_set(set, kept) {
                 SetAnswer::Refused(refusal) => refused(refusal),
-                SetAnswer::Good(f) => {
-                    *kept = sets::keep(set, f);
-                    judge_records(image, set, kept, l)
-                }
+                SetAnswer::Good(_) => judge_records(image, set, kept, l),
             }
         }
     }
@@ -143,7 +129,7 @@ pub fn judge(image: &[u8], kept: &mut [[u32; 16]; 5]) -> Tables
 pub fn check(image: &[u8]) -> CheckAnswer
     ensures { λ r. ⌜ r ≡ check-tables (now (image .entry)) ⌝ }
 {
-    let mut kept = [[0u32; 16]; 5];
+    let mut kept = [[0u32; 16]; 6];
     let t = judge(image, &mut kept);
     if t.refusal.number != 0 {
         let r = t.refusal;

@@ -8,7 +8,6 @@ use lib.Seq.{drop-drop}
 use Rattle.fields.specs.Number.{Bytes}
 use Rattle.rules.specs.declared.Layout.{Layout}
 use Rattle.rules.specs.Refusals.{gives}
-use Rattle.rules.specs.Tasks.{limits}
 use Rattle.rules.specs.Marks.{TS, TK, SL, EN, size, head-length-of}
 use Rattle.rules.specs.Image.{to-task, to-entry}
 use Rattle.rules.specs.Framing.{frame, read, behind-tasks, set-in, entries-in}
@@ -46,12 +45,6 @@ entries-are bytes at (suc many) h =
     (entries-are bytes (at + size SL) many (omega arith)
     ∙ ap (λ (rest : List ℕ). map to-entry (read SL many rest)) (sym (drop-drop (size SL) at bytes)))
 
--- how long an image of a timetable is, and how many tasks it has
-pub record Spans (bytes : List ℕ) (l : Layout) : Type 0 where
-  pub some-tasks : 1 ≤ l .tasks
-  pub few-tasks : l .tasks ≤ limits .tasks
-  pub long : length bytes ≡ head-length-of (l .tasks) + l .listed * size SL + size EN
-
 module _ (bytes : List ℕ) (l : Layout) (b : Bytes bytes) (framed : frame 1 bytes ≡ gives l) where
   -- what the image holds
   abbrev held : Timed
@@ -62,7 +55,7 @@ module _ (bytes : List ℕ) (l : Layout) (b : Bytes bytes) (framed : frame 1 byt
   timetable-read = rw framed
 
   -- it has as many tasks and entries as its layout says
-  pub tasks-many : length (set-in l bytes .tasks) ≡ l .tasks
+  tasks-many : length (set-in l bytes .tasks) ≡ l .tasks
   tasks-many = length-map (read TK (l .tasks) (drop (size TS) bytes)) to-task ∙ read-length TK (l .tasks) (drop (size TS) bytes)
 
   -- and as many entries
@@ -70,18 +63,14 @@ module _ (bytes : List ℕ) (l : Layout) (b : Bytes bytes) (framed : frame 1 byt
   entries-many = length-map (read SL (l .listed) (behind-tasks l bytes)) to-entry ∙ read-length SL (l .listed) (behind-tasks l bytes)
 
   -- so long it is
-  pub spans : Spans bytes l
-  spans =
+  long : length bytes ≡ head-length-of (l .tasks) + l .listed * size SL + size EN
+  long =
       let w = framed-timetable bytes b held timetable-read in
-      record {
-        some-tasks = omega (arith, w .0 .some-tasks, tasks-many);
-        few-tasks = omega (arith, w .0 .few-tasks, tasks-many);
-        long = ap length (w .1) ∙ timetable-image-length (set-in l bytes) (entries-in l bytes) ∙ omega (arith, tasks-many, entries-many);
-      }
+      ap length (w .1) ∙ timetable-image-length (set-in l bytes) (entries-in l bytes) ∙ omega (arith, tasks-many, entries-many)
 
   -- its entries stand at their places behind the tasks
   pub entries-framed : entries-at bytes (head-length-of (l .tasks)) (l .listed) ≡ entries-in l bytes
   entries-framed =
-      entries-are bytes (head-length-of (l .tasks)) (l .listed) (omega (arith, spans .long))
+      entries-are bytes (head-length-of (l .tasks)) (l .listed) (omega (arith, long))
       ∙ ap (λ (rest : List ℕ). map to-entry (read SL (l .listed) rest))
       (sym (behind-tasks-drop l bytes))

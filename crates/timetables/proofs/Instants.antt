@@ -1,5 +1,5 @@
 -- What the array of next releases says of an entry that breaks no rule: the forced idle before it, and whether it is an inversion. Assumes nothing.
-use mathlib.Core.Path.{_≡_, sym, _∙_, ap}
+use mathlib.Core.Path.{_≡_, refl, sym, _∙_, ap}
 use mathlib.Core.Bool.{true, false}
 use mathlib.Core.List.{List, [], _∷_}
 use Prim.Native.Nat.{ℕ, zero, suc, _+_, _-_, min, max, _≤_, _<_}
@@ -21,6 +21,7 @@ use Rattle.rules.proofs.PriorityLaws.{StartKeepsRules, least-below, never-waits
 use Rattle.rules.proofs.Gaps.{no-gap, whole-gap}
 use Rattle.rules.proofs.ForcedIdle.{released-in-cycle}
 use Rattle.rules.proofs.Inversions.{lower-waits, not-run, next-waits}
+use Rattle.sets.specs.Scans as scans
 use Rattle.timetables.specs.Walks.{next-releases}
 use Rattle.timetables.specs.Instants.{never, least-of, some-by}
 use Rattle.timetables.proofs.Releases.{LeftByRelease, releases-length, release-in-slot}
@@ -34,6 +35,12 @@ least-next h (t ∷ ts) x le left =
     by-bool (ltb (release t (head₀ x)) h)
     (λ b. rw (same, b, least-release) (omega arith))
     (λ b. rw (same, b, least-release) (omega (arith, ltb-false (release t (head₀ x)) h b)))
+
+-- the least of the first n slots
+pub least-first : (n : ℕ) (rs : List ℕ) → n ≤ length rs → scans.least-of n never rs ≡ least-of (take n rs)
+least-first zero rs l = refl
+least-first (suc n) [] l = absurd (omega arith)
+least-first (suc n) (r ∷ rs) l = ap (min r) (least-first n rs (omega arith))
 
 -- the least of one instant more
 pub least-more : (rs : List ℕ) (i : ℕ) → i < length rs → least-of (take (i + 1) rs) ≡ min (least-of (take i rs)) (getD rs i 0)

@@ -1,7 +1,7 @@
-pub mod Filled
 pub mod Releases
 pub mod Wrapped
 pub mod StartRules
+pub mod FirstReleases
 pub mod Instants
 pub mod EntriesRead
 pub mod OwnInversions

@@ -24,7 +24,9 @@ use Rattle.framing.specs.SetRead.{set-read}
 use Rattle.timetables.specs.declared.Counts.{Counts}
 use Rattle.timetables.specs.declared.Timetable.{Timetable}
 use Rattle.rules.specs.Tasks.{Set, memory-set}
-use Rattle.rules.specs.Marks.{head-length-of}
+use Rattle.rules.specs.Image.{head-length}
+use Rattle.rules.proofs.GoodSets.{set-good}
+use Rattle.sets.specs.Kept.{Rows, hyperperiod-in}
 use Rattle.timetables.specs.Counted.{Counted}
 use Rattle.timetables.specs.Judged.{entries-behind, refused-with, Good, JudgedAs}
 use Rattle.timetables.proofs.EntriesRead.{entries-length}
@@ -47,7 +49,7 @@ refused-exactly bytes r e q =
     (λ a. exactly .0 (sym e ∙ a), λ w. e ∙ exactly .1 w)
 
 -- counts of one timetable are the same
-counts-same : {ts : Set} {h : ℕ} {τ : List Entry} (c d : Counts) → Counted ts h τ c → Counted ts h τ d → c ≡ d
+counts-same : {ts : Set} {τ : List Entry} (c d : Counts) → Counted ts τ c → Counted ts τ d → c ≡ d
 counts-same c d a b =
     let idles : c .idles ≡ d .idles = a .idles ∙ sym (b .idles) in
     let inversions : c .inversions ≡ d .inversions = a .inversions ∙ sym (b .inversions) in
@@ -55,10 +57,10 @@ counts-same c d a b =
     λ i. record { idles = idles i; inversions = inversions i; each = each i }
 
 -- what is judged good is told by the image
-module _ {bytes : List ℕ} {count : Bool} {t u : Timetable} (g : Good bytes count t) (k : Good bytes count u) where
+module _ {bytes : List ℕ} {count : Bool} {t u : Timetable} {kept rows : Rows} (g : Good bytes count t kept) (k : Good bytes count u rows) where
   -- what the image holds
   abbrev held : Timetable → Timed
-  held v = record { set = memory-set (v .set); entries = entries-behind bytes (v .set) (v .listed) }
+  held v = record { set = memory-set (v .set); entries = entries-behind bytes (memory-set (v .set)) (v .listed) }
 
   -- is the same
   same-held : held t ≡ held u
@@ -76,8 +78,8 @@ module _ {bytes : List ℕ} {count : Bool} {t u : Timetable} (g : Good bytes cou
       omega (
         arith,
         ap (λ (x : Timed). length (x .entries)) same-held,
-        entries-length bytes (head-length-of (t .set .n)) (t .listed),
-        entries-length bytes (head-length-of (u .set .n)) (u .listed),
+        entries-length bytes (head-length (memory-set (t .set))) (t .listed),
+        entries-length bytes (head-length (memory-set (u .set))) (u .listed),
       )
 
   -- and the counts
@@ -95,17 +97,17 @@ module _ {bytes : List ℕ} {count : Bool} {t u : Timetable} (g : Good bytes cou
       λ i. record { refusal = r i; set = same-set i; listed = same-listed i; counts = same-counts i }
 
 -- what is judged good is not refused
-good-derived : {bytes : List ℕ} {count : Bool} {t : Timetable} → Good bytes count t → (r : Refusal) → derived bytes ≡ refuses r → ⊥
-good-derived {bytes} {count} {t} g r e =
-    let τ = entries-behind bytes (t .set) (t .listed) in
-    let given : derived bytes ≡ gives (record { set = memory-set (t .set); tables = tables (memory-set (t .set)) τ }) =
-    rw (g .read, g .stand .good, g .no-fault) in
+good-derived : {bytes : List ℕ} {count : Bool} {t : Timetable} {kept : Rows} → Good bytes count t kept → (r : Refusal) → derived bytes ≡ refuses r → ⊥
+good-derived {bytes} {t = t} {kept} g r e =
+    let ts = memory-set (t .set) in
+    let given : derived bytes ≡ gives (record { set = ts; tables = tables ts (entries-behind bytes ts (t .listed)) }) =
+    rw (g .read, set-good ts (hyperperiod-in kept) (g .stand .keeps .good) .0, g .no-fault) in
     let both = sym given ∙ e in
     clash (cc)
 
 -- the contract of `judge` leaves one result
-pub one-judgement : (bytes : List ℕ) (count : Bool) (t u : Timetable) → JudgedAs bytes count t → JudgedAs bytes count u → t ≡ u
-one-judgement bytes count t u a b =
+pub one-judgement : {bytes : List ℕ} {count : Bool} {kept rows : Rows} (t u : Timetable) → JudgedAs bytes count t kept → JudgedAs bytes count u rows → t ≡ u
+one-judgement t u a b =
     by-nat (t .refusal .number)
     (λ y. by-nat (u .refusal .number)
     (λ z. good-same (a .good y) (b .good z))

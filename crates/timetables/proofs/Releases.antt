@@ -6,7 +6,7 @@ use Prim.Native.Nat.{ℕ, zero, suc, _+_, _≤_, _<_, _∣_}
 use native.Mathlib.Omega.{arith}
 use native.Mathlib.Nat.{suc-mul, mul-le-mul-right, div-mul-cancel}
 use lib.Dec.{ltb}
-use lib.ListN.{length, getD, set, take}
+use lib.ListN.{length, getD, set}
 use borrow.Author.Tests.{lt-ltb, le-ltb}
 use Rattle.fields.specs.Body.{head₀, tail₀}
 use Rattle.rules.specs.declared.Task.{Task}
@@ -38,12 +38,6 @@ pub release-stored : (ts : List Task) (x : List ℕ) (i : ℕ) (d : Task) → i 
 release-stored [] x i d l = absurd (omega arith)
 release-stored (t ∷ ts) x zero d l = refl
 release-stored (t ∷ ts) x (suc i) d l = ap (λ (y : List ℕ). release t (head₀ x) ∷ y) (release-stored ts (tail₀ x) i d (omega arith))
-
--- the releases of the first tasks
-pub releases-taken : (n : ℕ) (slots : List Task) (x : List ℕ) → take n (next-releases slots x) ≡ next-releases (take n slots) x
-releases-taken zero slots x = refl
-releases-taken (suc n) [] x = refl
-releases-taken (suc n) (t ∷ slots) x = ap (λ (rs : List ℕ). release t (head₀ x) ∷ rs) (releases-taken n slots (tail₀ x))
 
 -- the release of the job after a job is a period later
 pub release-follows : (t : Task) (k : ℕ) → release t k + t .period ≡ release t (suc k)

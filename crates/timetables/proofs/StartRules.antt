@@ -4,19 +4,26 @@ use mathlib.Core.Bool.{true, false}
 use mathlib.Core.List.{List, [], _∷_}
 use Prim.Native.Nat.{ℕ, zero, suc, _+_, _-_, _≤_, _<_}
 use native.Mathlib.Omega.{arith}
-use native.Mathlib.Numerals.{add-one}
-use lib.Dec.{ltb}
-use lib.ListN.{length, getD, take}
-use borrow.Author.Tests.{lt-ltb, le-ltb}
+use lib.Dec.{ltb, leb}
+use lib.ListN.{length}
+use borrow.Author.Tests.{lt-ltb, le-ltb, le-leb, lt-leb}
 use Rattle.fields.specs.Body.{head₀, tail₀}
 use Rattle.rules.specs.declared.Task.{Task}
-use Rattle.rules.specs.Tasks.{Set, task, release, jobs}
+use Rattle.rules.specs.Tasks.{Set, task-in, task, release, jobs, KeepsItsRule}
 use Rattle.rules.specs.Priority.{slot, all-started, entry-breaks}
 use Rattle.rules.specs.Judging.{missing-from}
-use Rattle.rules.proofs.Cases.{by-bool}
-use Rattle.rules.proofs.Arrays.{slot-element}
-use Rattle.timetables.specs.Walks.{next-releases, start-breaks, lowest-below}
+use Rattle.rules.proofs.Cases.{by-bool, by-le}
+use Rattle.sets.specs.Scans.{lowest-below}
+use Rattle.timetables.specs.Walks.{start-breaks}
 use Rattle.timetables.proofs.Releases.{LeftByRelease}
+
+-- a job ends by its deadline exactly where it starts at most D − C behind its release
+late-by-slack : (t : Task) (released start : ℕ) → t .time ≤ t .deadline →
+    leb (start + t .time) (released + t .deadline) ≡ leb start (released + (t .deadline - t .time))
+late-by-slack t released start fits =
+    by-le start (released + (t .deadline - t .time))
+    (λ a. rw (le-leb start (released + (t .deadline - t .time)) a, le-leb (start + t .time) (released + t .deadline) (omega arith)))
+    (λ a. rw (lt-leb start (released + (t .deadline - t .time)) a, lt-leb (start + t .time) (released + t .deadline) (omega arith)))
 
 module _ (ts : Set) (h : ℕ) (x : List ℕ) (f i s : ℕ) where
   -- an entry of no task breaks 11
@@ -24,9 +31,10 @@ module _ (ts : Set) (h : ℕ) (x : List ℕ) (f i s : ℕ) where
   breaks-no-task l = rw (le-ltb i (length (ts .tasks)) l)
 
   -- an entry of a task breaks what its start breaks
-  pub breaks-of-task : LeftByRelease h (ts .tasks) → i < length (ts .tasks) →
-      entry-breaks ts h x f i s ≡ start-breaks (task ts i) h (release (task ts i) (slot x i)) f s
-  breaks-of-task left l = rw (lt-ltb i (length (ts .tasks)) l, left i l (slot x i))
+  pub breaks-of-task : LeftByRelease h (ts .tasks) → KeepsItsRule (task ts i) → i < length (ts .tasks) →
+      entry-breaks ts h x f i s ≡ start-breaks h (task ts i .deadline - task ts i .time) (release (task ts i) (slot x i)) f s
+  breaks-of-task left rule l =
+      rw (lt-ltb i (length (ts .tasks)) l, left i l (slot x i), late-by-slack (task ts i) (release (task ts i) (slot x i)) s (rule .fits))
 
 -- a scan from the next slot on is one of the slots behind the first
 scan-behind : (many i h : ℕ) (rs : List ℕ) → lowest-below many (suc i) h rs ≡ suc (lowest-below many i h (tail₀ rs))
@@ -41,17 +49,17 @@ missing-behind i h (t ∷ ts) x =
     by-bool (ltb (head₀ x) (jobs h t)) (λ b. rw (b, missing-from)) (λ b. rw (b, missing-from) (missing-behind (suc i) h ts (tail₀ x)))
 
 -- a scan of the releases of next jobs gives the lowest task with a job missing
-pub lowest-missing : (h : ℕ) (ts : List Task) (x : List ℕ) (n : ℕ) → n ≤ length ts → LeftByRelease h (take n ts) →
-    lowest-below n 0 h (next-releases ts x) ≡ missing-from 0 h (take n ts) x
-lowest-missing h ts x zero l left = refl
-lowest-missing h [] x (suc n) l left = absurd (omega arith)
-lowest-missing h (t ∷ ts) x (suc n) l left =
+pub lowest-missing : (h : ℕ) (ts : List Task) (x rs : List ℕ) → ((i : ℕ) → i < length ts → slot rs i ≡ release (task-in ts i) (slot x i)) →
+    LeftByRelease h ts → lowest-below (length ts) 0 h rs ≡ missing-from 0 h ts x
+lowest-missing h [] x rs there left = refl
+lowest-missing h (t ∷ ts) x rs there left =
     let same = left 0 (omega arith) (head₀ x) in
-    by-bool (ltb (release t (head₀ x)) h) (λ b. rw (same, b, lowest-below, missing-from))
-    (λ b. rw (same, b, lowest-below, missing-from)
-    (scan-behind n 0 h (next-releases (t ∷ ts) x)
-    ∙ ap suc (lowest-missing h ts (tail₀ x) n (omega arith) (λ i a k. left (suc i) (omega arith) k))
-    ∙ sym (missing-behind 0 h (take n ts) (tail₀ x))))
+    let here : head₀ rs ≡ release t (head₀ x) = there 0 (omega arith) in
+    by-bool (ltb (release t (head₀ x)) h) (λ b. rw (here, same, b, lowest-below, missing-from))
+    (λ b. rw (here, same, b, lowest-below, missing-from)
+    (scan-behind (length ts) 0 h rs
+    ∙ ap suc (lowest-missing h ts (tail₀ x) (tail₀ rs) (λ i l. there (suc i) (omega arith)) (λ i l k. left (suc i) (omega arith) k))
+    ∙ sym (missing-behind 0 h ts (tail₀ x))))
 
 -- with a job missing not all have started
 pub missing-not-all : (i h : ℕ) (ts : List Task) (x : List ℕ) → missing-from i h ts x < i + length ts → all-started h ts x ≡ false
@@ -66,21 +74,3 @@ none-missing-all i h [] x l = refl
 none-missing-all i h (t ∷ ts) x l =
     by-bool (ltb (head₀ x) (jobs h t)) (λ b. absurd (let m : i + suc (length ts) ≤ i = rw (b, missing-from) at l in omega arith))
     (λ b. rw (b, all-started) (none-missing-all (suc i) h ts (tail₀ x) (let m : i + suc (length ts) ≤ missing-from (suc i) h ts (tail₀ x) = rw (b, missing-from) at l in omega arith)))
-
--- a scan of n slots that has come to slot i: it ends there, goes on, or ends behind them
-module _ (n i h : ℕ) (rs : List ℕ) where
-  -- it ends at a number below the limit
-  pub scan-ends : i < n → getD rs i 0 < h → lowest-below (n - i) i h rs ≡ i
-  scan-ends l b =
-      let e : n - i ≡ suc (n - suc i) = omega arith in
-      rw (e, lt-ltb (slot rs i) h (omega (arith, slot-element rs i)), lowest-below)
-
-  -- it goes on past one that is not
-  pub scan-goes : i < n → h ≤ getD rs i 0 → lowest-below (n - i) i h rs ≡ lowest-below (n - (i + 1)) (i + 1) h rs
-  scan-goes l b =
-      let e : n - i ≡ suc (n - suc i) = omega arith in
-      rw (e, le-ltb (slot rs i) h (omega (arith, slot-element rs i)), add-one i, lowest-below)
-
-  -- it ends behind the last slot
-  pub scan-past : n ≤ i → lowest-below (n - i) i h rs ≡ i
-  scan-past l = let e : n - i ≡ 0 = omega arith in rw e

@@ -8,15 +8,11 @@ use Rattle.rules.specs.declared.Entry.{Entry}
 use Rattle.rules.specs.declared.Inversion.{Inversion}
 use Rattle.rules.specs.Tasks.{Set, limits}
 use Rattle.rules.specs.Timetable.{pick}
-use Rattle.rules.specs.Setting.{Setting, Tables}
-use Rattle.rules.specs.Priority.{setting-of}
-use Rattle.rules.specs.Irregularities as book
+use Rattle.rules.specs.Setting.{Setting}
+use Rattle.rules.specs.Priority.{setting}
 use Rattle.rules.specs.Irregularities.{runs, inversion-of}
+use Rattle.rules.specs.Judging.{tables}
 use Rattle.timetables.specs.declared.Counts.{Counts}
-
--- the tables of a set's timetable, in a cycle of h ticks
-abbrev pub tables-of : Set → ℕ → List Entry → Tables
-tables-of ts h τ = book.tables-of (setting-of ts h) [] 0 τ
 
 module _ (G : Setting) (i : ℕ) where
   -- the inversions of task i, in the order of entries
@@ -28,11 +24,11 @@ module _ (G : Setting) (i : ℕ) where
       (inversion-of G x e ∷ task-inversions (G .start-job x (e .task)) τ))
       (task-inversions (G .start-job x (e .task)) τ)
 
--- their records, counted
-pub record Counted (ts : Set) (h : ℕ) (τ : List Entry) (c : Counts) : Type 0 where
-  pub idles : c .idles ≡ length (tables-of ts h τ .idles)
-  pub inversions : c .inversions ≡ length (tables-of ts h τ .inversions)
-  pub each : (i : ℕ) → getD (c .each) i 0 ≡ length (task-inversions (setting-of ts h) i [] τ)
+-- the records of a set's timetable, counted
+pub record Counted (ts : Set) (τ : List Entry) (c : Counts) : Type 0 where
+  pub idles : c .idles ≡ length (tables ts τ .idles)
+  pub inversions : c .inversions ≡ length (tables ts τ .inversions)
+  pub each : (i : ℕ) → getD (c .each) i 0 ≡ length (task-inversions (setting ts) i [] τ)
   pub slots : length (c .each) ≡ limits .tasks
 
 -- nothing counted

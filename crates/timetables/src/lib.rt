@@ -3,44 +3,37 @@
 use framing::FrameAnswer;
 use framing::TasksAnswer;
 use images::ENTRY_SIZE;
-use images::ROWS;
 use images::SL;
 use rules::CheckAnswer;
-use rules::Place;
+use rules::Entry;
+use rules::NO_SET;
 use rules::Refusal;
 use rules::SetAnswer;
-use rules::Task;
 use rules::TaskSet;
+use sets::FIGURES;
+use sets::FIRST;
+use sets::HYPERPERIOD;
+use sets::PERIODS;
+use sets::SLACK;
+use sets::TASKS;
+use sets::TIMES;
 ghost use mathlib.Core.Path.{_≡_};
-ghost use mathlib.Core.List.{[]};
-ghost use Prim.Native.Nat.{_+_, max, _≤_, _<_};
+ghost use Prim.Native.Nat.{_+_, _≤_, _<_};
 ghost use lib.Dec.{ltb};
 ghost use lib.ListN.{length, take};
-ghost use Rattle.rules.specs.Tasks.{largest-number};
+ghost use Rattle.rules.specs.Tasks.{Set, largest-number};
+ghost use Rattle.rules.specs.Marks.{head-count-of};
 ghost use Rattle.rules.specs.Operations.{check-timetable};
+ghost use Rattle.sets.specs.Kept.{Keeps};
 ghost use Rattle.timetables.specs.Walks as walks;
-ghost use Rattle.timetables.specs.Judged.{EntriesStand, Walked, refused-with, JudgedAs};
-ghost use Rattle.timetables.specs.Instants.{least-of, some-by};
-
-// The release of each task's job 0.
-pub fn first_releases(s: TaskSet) -> [u32; 16]
-    ensures { λ r. ⌜ r ≡ walks.next-releases (s .tasks) [] ⌝ }
-{
-    let mut release = [0u32; 16];
-    let mut i: usize = 0;
-    while i < 16 {
-        release[i] = s.tasks[i].offset;
-        i += 1;
-    }
-    release
-}
+ghost use Rattle.timetables.specs.Judged.{EntriesStand, Walked, refused-with, told-of, JudgedAs};
+ghost use Rattle.timetables.specs.Instants.{least-of, instant-of, some-by};
 
 // The number of the first rule that a start of a task's next job breaks, 12 to 15 in that order; 0 for none. A release from the end of the cycle on
 // says that no job is left. One test sees both a start before its release, where the difference wraps, and a late one.
-fn start_breaks(t: Task, h: u32, release: u32, free: u32, start: u32) -> u32
-    requires fits { ⌜ t .time ≤ t .deadline ⌝ }
-    requires short { ⌜ h + t .deadline ≤ largest-number ⌝ }
-    ensures { λ r. ⌜ r ≡ walks.start-breaks t h release free start ⌝ }
+fn start_breaks(h: u32, slack: u32, release: u32, free: u32, start: u32) -> u32
+    requires { ⌜ h + slack ≤ largest-number ⌝ }
+    ensures { λ r. ⌜ r ≡ walks.start-breaks h slack release free start ⌝ }
 {
     if h <= release {
         return 12;
@@ -51,7 +44,7 @@ fn start_breaks(t: Task, h: u32, release: u32, free: u32, start: u32) -> u32
         }
         return 14;
     }
-    if t.deadline - t.time < std::num::wrapping_sub_u32(start, release) {
+    if slack < std::num::wrapping_sub_u32(start, release) {
         if start < release {
             return 13;
         }
@@ -60,19 +53,22 @@ fn start_breaks(t: Task, h: u32, release: u32, free: u32, start: u32) -> u32
     0
 }
 
-// The lowest of n tasks with a job missing, n where there is none.
-fn missing(n: usize, h: u32, release: &[u32; 16]) -> usize
-    requires { ⌜ n ≤ 16 ⌝ }
-    ensures { λ r. ⌜ r ≡ walks.lowest-below n 0 h (now (release .entry)) ⌝ }
+// The number of the first rule that an entry breaks, 11 to 15; 0 for none.
+fn entry_breaks(kept: &[[u32; 16]; 6], release: &[u32; 16], free: u32, e: Entry) -> u32
+    requires { ⌜ ((ts : Set) × Keeps ts (now kept)) ⌝ }
+    ensures { λ r. ⌜ r ≡ walks.entry-breaks (now (kept .entry)) (now (release .entry)) free e ⌝ }
 {
-    let mut i: usize = 0;
-    while i < n {
-        if release[i] < h {
-            return i;
-        }
-        i += 1;
+    if kept[FIGURES][TASKS] <= e.task {
+        return 11;
     }
-    n
+    let i = e.task as usize;
+    start_breaks(
+        kept[FIGURES][HYPERPERIOD],
+        kept[SLACK][i],
+        release[i],
+        free,
+        e.start,
+    )
 }
 
 // Is one of n jobs released before an instant?
@@ -96,7 +92,7 @@ pub fn idles_before(n: usize, release: &[u32; 16], i: usize, free: u32, start: u
     requires a_task { ⌜ i < n ⌝ }
     requires few { ⌜ n ≤ 16 ⌝ }
     requires slots { ⌜ length (now release) ≡ 16 ⌝ }
-    ensures { λ r. ⌜ r ≡ ltb (max free (least-of (take n (now (release .entry))))) start ⌝ }
+    ensures { λ r. ⌜ r ≡ ltb (instant-of n (now (release .entry)) free) start ⌝ }
 {
     if start <= free {
         return false;
@@ -131,86 +127,63 @@ pub struct Counts {
 }
 
 // Where a walk over the entries stops: the number of the rule that the entry there breaks, 0 where no whole SL record stands; how many entries are
-// before it; its byte offset; the first task with a job missing; and, where they were asked for, the irregularities so far.
+// before it; the first task with a job missing; and, where they were asked for, the irregularities so far.
 pub struct Walk {
     pub number: u32,
     pub entries: usize,
-    pub at: usize,
     pub missing: usize,
     pub counts: Counts,
 }
 
-// The walk over the entries of a set's timetable.
-fn walk_entries(image: &[u8], s: TaskSet, h: u32, count: bool) -> Walk
-    requires { ⌜ EntriesStand (now image) s h 0 ⌝ }
-    ensures { λ r. ⌜ Walked (now (image .entry)) s h count r ⌝ }
+// A walk by its parts.
+fn walked(number: u32, entries: usize, missing: usize, counts: Counts) -> Walk
+    ensures { λ r. ⌜ r ≡ record { number = number; entries = entries; missing = missing; counts = counts } ⌝ }
 {
-    let n = s.n as usize;
-    let mut release = first_releases(s);
+    Walk {
+        number,
+        entries,
+        missing,
+        counts,
+    }
+}
+
+// The walk over the entries of a timetable.
+fn walk_entries(image: &[u8], kept: &[[u32; 16]; 6], count: bool) -> Walk
+    requires { ⌜ ((ts : Set) × EntriesStand ts (now image) (now kept) 0) ⌝ }
+    ensures { λ r. ⌜ ((ts : Set) → EntriesStand ts (now (image .entry)) (now (kept .entry)) 0 → Walked ts (now (image .entry)) count r) ⌝ }
+{
+    let n = kept[FIGURES][TASKS] as usize;
+    let mut release = kept[FIRST];
     let mut free: u32 = 0;
-    let mut idles: usize = 0;
-    let mut inversions: usize = 0;
-    let mut each = [0usize; 16];
+    let mut counts = Counts {
+        idles: 0,
+        inversions: 0,
+        each: [0usize; 16],
+    };
     let mut at = images::head_length(n);
     let mut j: usize = 0;
     'entries: loop {
         if !images::stands(image, at, SL) {
-            let counts = Counts {
-                idles,
-                inversions,
-                each,
-            };
-            break 'entries Walk {
-                number: 0,
-                entries: j,
-                at,
-                missing: missing(n, h, &release),
-                counts,
-            };
+            let lowest = sets::missing(n, kept[FIGURES][HYPERPERIOD], &release);
+            break 'entries walked(0, j, lowest, counts);
         }
         let e = images::entry_at(image, at);
-        if s.n <= e.task {
-            let counts = Counts {
-                idles,
-                inversions,
-                each,
-            };
-            break 'entries Walk {
-                number: 11,
-                entries: j,
-                at,
-                missing: n,
-                counts,
-            };
+        let number = entry_breaks(kept, &release, free, e);
+        if number != 0 {
+            break 'entries walked(number, j, n, counts);
         }
         let i = e.task as usize;
-        let t = s.tasks[i];
-        let number = start_breaks(t, h, release[i], free, e.start);
-        if number != 0 {
-            let counts = Counts {
-                idles,
-                inversions,
-                each,
-            };
-            break 'entries Walk {
-                number,
-                entries: j,
-                at,
-                missing: n,
-                counts,
-            };
-        }
         if count {
             if idles_before(n, &release, i, free, e.start) {
-                idles += 1;
+                counts.idles += 1;
             }
             if lower_waits(&release, i, e.start) {
-                inversions += 1;
-                each[i] += 1;
+                counts.inversions += 1;
+                counts.each[i] += 1;
             }
         }
-        release[i] += t.period;
-        free = e.start + t.time;
+        release[i] += kept[PERIODS][i];
+        free = e.start + kept[TIMES][i];
         at += ENTRY_SIZE;
         j += 1;
     }
@@ -229,13 +202,7 @@ pub struct Timetable {
 fn refused(refusal: Refusal) -> Timetable
     ensures { λ r. ⌜ r ≡ refused-with refusal ⌝ }
 {
-    let tasks = [Task {
-        offset: 0,
-        time: 0,
-        period: 0,
-        deadline: 0,
-    }; 16];
-    let set = TaskSet { n: 0, tasks };
+    let set = NO_SET;
     let counts = Counts {
         idles: 0,
         inversions: 0,
@@ -249,63 +216,60 @@ fn refused(refusal: Refusal) -> Timetable
     }
 }
 
+// What a walk over all entries of a framed image comes to: the rule that it broke, a job that is missing, or nothing.
+fn told(set: TaskSet, w: Walk) -> Timetable
+    requires { ⌜ head-count-of (set .n) + w .entries < 18446744073709551616 ⌝ }
+    ensures { λ r. ⌜ r ≡ told-of set w ⌝ }
+{
+    let n = set.n as usize;
+    if w.number != 0 {
+        return refused(Refusal {
+            number: w.number,
+            place: images::head_count(n) + w.entries,
+        });
+    }
+    if w.missing < n {
+        return refused(Refusal {
+            number: 16,
+            place: w.missing,
+        });
+    }
+    let refusal = Refusal {
+        number: 0,
+        place: 0,
+    };
+    let counts = w.counts;
+    Timetable {
+        refusal,
+        set,
+        listed: w.entries,
+        counts,
+    }
+}
+
 // A timetable image judged: TS and the tasks framed, the set, the entries in one walk, and framing gone on with from where that stops. What framing
 // refuses comes before what the set or an entry is refused for.
-pub fn judge(image: &[u8], count: bool) -> Timetable
-    ensures { λ r. ⌜ JudgedAs (now (image .entry)) count r ⌝ }
+pub fn judge(image: &[u8], count: bool, kept: &mut [[u32; 16]; 6]) -> Timetable
+    ensures { λ r. ⌜ JudgedAs (now (image .entry)) count r (now (kept .exit)) ⌝ }
 {
     match framing::frame_tasks(image, 1) {
         TasksAnswer::Refused(refusal) => refused(refusal),
         TasksAnswer::Framed(p) => {
             let set = framing::read_set(image, p.tasks);
-            match sets::judge_set(set) {
+            match sets::judge_set(set, kept) {
                 SetAnswer::Refused(fault) => match framing::frame_from(image, 1, p) {
                     FrameAnswer::Refused(refusal) => refused(refusal),
                     FrameAnswer::Framed(_) => refused(fault),
                 },
-                SetAnswer::Good(f) => {
-                    let w = walk_entries(image, set, f.hyperperiod, count);
-                    let index = p.index + w.entries;
-                    let mut rank = p.rank;
-                    if 0 < w.entries {
-                        rank = ROWS[SL].rank;
-                    }
-                    let place = Place {
-                        index,
-                        offset: w.at,
-                        rank,
-                        due: 0,
-                        tasks: p.tasks,
-                        listed: w.entries,
-                        inversions: 0,
-                    };
-                    match framing::frame_from(image, 1, place) {
+                SetAnswer::Good(_) => {
+                    let w = walk_entries(image, kept, count);
+                    match framing::frame_from(
+                        image,
+                        1,
+                        framing::past(p, SL, w.entries, w.entries, 0),
+                    ) {
                         FrameAnswer::Refused(refusal) => refused(refusal),
-                        FrameAnswer::Framed(_) => {
-                            if w.number != 0 {
-                                return refused(Refusal {
-                                    number: w.number,
-                                    place: index,
-                                });
-                            }
-                            if w.missing < p.tasks {
-                                return refused(Refusal {
-                                    number: 16,
-                                    place: w.missing,
-                                });
-                            }
-                            let refusal = Refusal {
-                                number: 0,
-                                place: 0,
-                            };
-                            let counts = w.counts;
-                            Timetable {
-                                refusal,
-                                set,
-                                listed: w.entries,
-                                counts,
-                            }
-                        }
+                        FrameAnswer::Framed(_) => told(set, w),
                     }
                 }
             }
@@ -317,7 +281,8 @@ pub fn judge(image: &[u8], count: bool) -> Timetable
 pub fn check(image: &[u8]) -> CheckAnswer
     ensures { λ r. ⌜ r ≡ check-timetable (now (image .entry)) ⌝ }
 {
-    let t = judge(image, false);
+    let mut kept = [[0u32; 16]; 6];
+    let t = judge(image, false, &mut kept);
     if t.refusal.number != 0 {
         let r = t.refusal;
         return CheckAnswer::Refused(r);

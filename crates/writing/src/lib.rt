@@ -34,7 +34,7 @@ fn room(len: usize, at: usize) -> usize
 
 // A mark's two bytes at a place.
 fn put_mark(out: &mut [u8], at: usize, k: usize)
-    requires row { ⌜ k < 6 ⌝ }
+    requires row { ⌜ k < book-marks.mark-count ⌝ }
     requires inside { ⌜ at + 2 ≤ length (now out) ⌝ }
     ensures { λ _. ⌜ now (out .exit) ≡ mark-put (now (out .entry)) at k ⌝ }
 {
@@ -57,7 +57,7 @@ fn put_field(out: &mut [u8], at: usize, width: usize, x: u32)
 
 // A record with so many of four values as its mark has fields, at a place; nothing where it does not fit.
 fn put_record(out: &mut [u8], at: usize, k: usize, a: u32, b: u32, c: u32, d: u32)
-    requires { ⌜ k < 6 ⌝ }
+    requires { ⌜ k < book-marks.mark-count ⌝ }
     ensures { λ _. ⌜ now (out .exit) ≡ record-put (now (out .entry)) at (book.record-of (mark-of k) (a ∷ (b ∷ (c ∷ (d ∷ []))))) ⌝ }
 {
     let row = images::row_of(k);

@@ -4,7 +4,7 @@ use mathlib.Core.Bool.{true, false}
 use borrow.Author.Needs.{needs}
 use Rattle.rules.specs.Marks.{ID, PV}
 use Rattle.decision.proofs.WholeRecords.{body-inside, idle-body-read, inversion-body-read, idle-read, no-idle-read, idle-at-end, nothing-for-idle}
-use Rattle.decision.proofs.Fitting.{set-hyperperiod}
+use Rattle.sets.proofs.SetKept.{kept-cycle}
 use Rattle.decision.proofs.Reading.{same-idle-readable}
 use Rattle.decision.proofs.idle_shown.Statement.{statement}
 use Rattle.decision.proofs.idle_shown.Tie as tie
@@ -46,7 +46,7 @@ returns-2 c = λ ts fits.
     let read = c .before .before .before in
     let whole = read .before .before .before in
     let is-whole = sym (whole .before .whole .ensures) ∙ whole .if2 .taken in
-    idle-read ts _ _ _ (set-hyperperiod fits) true is-whole _
+    idle-read ts _ _ _ (kept-cycle fits) true is-whole _
     (idle-body-read _ _ _ _ (read .before .part .ensures) is-whole (read .before .before .body-of .ensures) _ (read .idle-body .ensures))
     (sym (c .if3 .taken) ∙ c .before .idle-keeps .ensures)
 
@@ -55,7 +55,7 @@ returns-3 c = λ ts fits.
     let read = c .before .before .before in
     let whole = read .before .before .before in
     let is-whole = sym (whole .before .whole .ensures) ∙ whole .if2 .taken in
-    idle-read ts _ _ _ (set-hyperperiod fits) false is-whole _
+    idle-read ts _ _ _ (kept-cycle fits) false is-whole _
     (idle-body-read _ _ _ _ (read .before .part .ensures) is-whole (read .before .before .body-of .ensures) _ (read .idle-body .ensures))
     (sym (c .if3 .left) ∙ c .before .idle-keeps .ensures)
 
@@ -82,7 +82,7 @@ returns-4 c = λ ts fits.
     let read = c .before .before in
     let whole = read .before .before .before in
     let is-whole = sym (whole .before .whole2 .ensures) ∙ whole .if4 .taken in
-    no-idle-read ts _ _ _ (set-hyperperiod fits) true is-whole _
+    no-idle-read ts _ _ _ (kept-cycle fits) true is-whole _
     (inversion-body-read _ _ _ _ (read .before .part2 .ensures) is-whole (read .before .before .body-of2 .ensures) _ (read .inversion-body .ensures))
     (sym (c .if5 .taken) ∙ c .before .inversion-keeps .ensures ts fits)
 
@@ -91,7 +91,7 @@ returns-5 c = λ ts fits.
     let read = c .before .before in
     let whole = read .before .before .before in
     let is-whole = sym (whole .before .whole2 .ensures) ∙ whole .if4 .taken in
-    no-idle-read ts _ _ _ (set-hyperperiod fits) false is-whole _
+    no-idle-read ts _ _ _ (kept-cycle fits) false is-whole _
     (inversion-body-read _ _ _ _ (read .before .part2 .ensures) is-whole (read .before .before .body-of2 .ensures) _ (read .inversion-body .ensures))
     (sym (c .if5 .left) ∙ c .before .inversion-keeps .ensures ts fits)
 

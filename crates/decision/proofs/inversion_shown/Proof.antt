@@ -4,7 +4,7 @@ use mathlib.Core.Bool.{true, false}
 use borrow.Author.Needs.{needs}
 use Rattle.rules.specs.Marks.{PV}
 use Rattle.decision.proofs.WholeRecords.{body-inside, inversion-body-read, inversion-read, inversion-at-end, nothing-for-task}
-use Rattle.decision.proofs.Fitting.{set-hyperperiod}
+use Rattle.sets.proofs.SetKept.{kept-cycle}
 use Rattle.decision.proofs.inversion_shown.Statement.{statement}
 use Rattle.decision.proofs.inversion_shown.Tie as tie
 
@@ -31,7 +31,7 @@ returns c = λ ts fits.
     let read = c .before .before in
     let whole = read .before .before .before in
     let is-whole = sym (whole .before .whole .ensures) ∙ whole .if1 .taken in
-    inversion-read ts _ _ _ (set-hyperperiod fits) true is-whole _
+    inversion-read ts _ _ _ (kept-cycle fits) true is-whole _
     (inversion-body-read _ _ _ _ (read .before .part .ensures) is-whole (read .before .before .body-of .ensures) _ (read .inversion-body .ensures))
     (sym (c .if2 .taken) ∙ c .before .inversion-keeps .ensures ts fits)
 
@@ -40,7 +40,7 @@ returns-2 c = λ ts fits.
     let read = c .before .before in
     let whole = read .before .before .before in
     let is-whole = sym (whole .before .whole .ensures) ∙ whole .if1 .taken in
-    inversion-read ts _ _ _ (set-hyperperiod fits) false is-whole _
+    inversion-read ts _ _ _ (kept-cycle fits) false is-whole _
     (inversion-body-read _ _ _ _ (read .before .part .ensures) is-whole (read .before .before .body-of .ensures) _ (read .inversion-body .ensures))
     (sym (c .if2 .left) ∙ c .before .inversion-keeps .ensures ts fits)
 

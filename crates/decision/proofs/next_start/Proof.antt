@@ -29,32 +29,33 @@ index-1-tasks-readable c = search needs
 tasks-readable-requires : tie.Need-tasks-readable-requires
 tasks-readable-requires c κs =
     let given = c .before .before .pre in
-    (given .1 .set .few, λ judged. (given .0, given .1 .set, given .2 judged .tasks-read))
+    let set = given .1 .fits .set in
+    (set .few, λ judged. (given .0, set, given .2 judged .tasks-read))
 
 returns : tie.Need-returns
-returns c = tasks-told-unread _ (c .before .tasks-readable .ensures) (not-true _ (c .if1 .taken))
+returns c = λ ts stands. tasks-told-unread _ _ (c .before .tasks-readable .ensures) (not-true _ (c .if1 .taken)) ts (stands .fits)
 
 past-idles-requires : tie.Need-past-idles-requires
 past-idles-requires c κs =
     let given = begin c .pre in
-    (given .0, idling c (given .0) (given .1), λ judged. given .2 judged .idles-read)
+    (given .1 .by-end, (given .0, idling c (given .0) (given .1 .fits), λ judged. given .2 judged .idles-read))
 
 returns-2 : tie.Need-returns-2
-returns-2 c = λ ts fits.
+returns-2 c = λ ts stands.
     let idled = c .before .before in
-    idled .past-idles .ensures ts (idling (idled .before) ts fits) .unread (not-true _ (c .if2 .taken))
+    idled .past-idles .ensures ts (idling (idled .before) ts (stands .fits)) .unread (not-true _ (c .if2 .taken))
 
 start-at-requires : tie.Need-start-at-requires
 start-at-requires c κs =
     let idled = c .before .before in
     let given = begin (idled .before) .pre in
-    let here = idled .past-idles .ensures _ (idling (idled .before) (given .0) (given .1)) .read (not-false _ (c .if2 .left)) in
+    let here = idled .past-idles .ensures _ (idling (idled .before) (given .0) (given .1 .fits)) .read (not-false _ (c .if2 .left)) in
     (given .0, here .0, here .1)
 
 returns-3 : tie.Need-returns-3
-returns-3 c = λ ts fits.
+returns-3 c = λ ts stands.
     let idled = c .before .before .before in
-    starts-there (idled .past-idles .ensures ts (idling (idled .before) ts fits)) (not-false _ (c .before .if2 .left)) (c .start-at .ensures ts)
+    starts-there (idled .past-idles .ensures ts (idling (idled .before) ts (stands .fits))) (not-false _ (c .before .if2 .left)) (c .start-at .ensures ts)
 
 pub next-start-spec : {M : Type 1} → statement M
 next-start-spec =

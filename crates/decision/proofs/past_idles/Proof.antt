@@ -5,27 +5,27 @@ use Prim.Native.Nat.{_-_}
 use native.Mathlib.Omega.{arith}
 use borrow.Author.Needs.{needs}
 use Rattle.sets.specs.Kept.{tasks-in, hyperperiod-in}
+use Rattle.sets.specs.Scans.{least-of}
 use Rattle.decision.specs.Fits.{releases-in}
-use Rattle.decision.specs.Waiting.{least-of}
 use Rattle.decision.proofs.Deciding.{Decides, judged-readable, idled-unread, idled-none, idled-other, used-fits, less-left, decides-again}
 use Rattle.decision.proofs.past_idles.Statement.{statement}
 use Rattle.decision.proofs.past_idles.Tie as tie
 
 abbrev Inv-decisions : tie.InvT-decisions
-Inv-decisions image judged kept at n first from₀ o₀ from o = Decides image judged kept at from o
+Inv-decisions image judged kept at n first from₀ o₀ from o = Decides image judged kept at (record { free = from₀; idle = o₀ }) from o
 
 abbrev μ-decisions : tie.MeasureT-decisions
 μ-decisions image judged kept at n first from₀ o₀ from o = hyperperiod-in kept - from
 
 -- where the function begins
 abbrev begin : tie.At-decisions Inv-decisions μ-decisions → tie.Start Inv-decisions μ-decisions
-begin c = c .before .before .before .before .before .before .before .before
+begin c = c .before .before .before .before .before .before
 
 -- the least of releases
 is-first : (c : tie.At-decisions Inv-decisions μ-decisions) →
     let a = begin c .args in
-    c .before .before .before .least .result ≡ least-of (tasks-in (a .kept .now)) (hyperperiod-in (a .kept .now)) (releases-in (a .at .now))
-is-first c = c .before .before .before .least .ensures
+    c .before .least .result ≡ least-of (tasks-in (a .kept .now)) (hyperperiod-in (a .kept .now)) (releases-in (a .at .now))
+is-first c = c .before .least .ensures
 
 index-1-n : tie.Need-index-1-n Inv-decisions μ-decisions
 index-1-n c = search needs
@@ -48,25 +48,13 @@ index-1-least-2 c = search needs
 least-requires : tie.Need-least-requires Inv-decisions μ-decisions
 least-requires c κs = search needs
 
-index-1-from : tie.Need-index-1-from Inv-decisions μ-decisions
-index-1-from c = search needs
-
-index-2-from : tie.Need-index-2-from Inv-decisions μ-decisions
-index-2-from c = search needs
-
-index-1-o : tie.Need-index-1-o Inv-decisions μ-decisions
-index-1-o c = search needs
-
-index-2-o : tie.Need-index-2-o Inv-decisions μ-decisions
-index-2-o c = search needs
-
 decisions-holds : tie.Need-decisions-holds Inv-decisions μ-decisions
 decisions-holds c =
-    let given = c .before .before .before .before .before .before .before .pre in
+    let given = c .before .before .before .before .before .pre in
     record {
-      by-end = given .1 .fits .by-end;
+      by-end = given .0;
       same = λ ts i. refl;
-      idles-read = λ judged. (given .0, given .1 .fits .set, given .2 judged);
+      idles-read = λ judged. (given .1 .0, given .1 .1 .fits .set, given .1 .2 judged);
     }
 
 later-requires : tie.Need-later-requires Inv-decisions μ-decisions
@@ -75,7 +63,7 @@ later-requires c κs = search needs
 idle-shown-requires : tie.Need-idle-shown-requires Inv-decisions μ-decisions
 idle-shown-requires c κs =
     let at = c .before in
-    (begin at .pre .1 .fits .set .few, judged-readable (at .decisions .inv))
+    (begin at .pre .1 .1 .fits .set .few, judged-readable (at .decisions .inv))
 
 enum-told : tie.Need-enum-told Inv-decisions μ-decisions
 enum-told c = search needs
@@ -101,7 +89,7 @@ add-from c =
     let told = test .before .before .before in
     let shown = told .before .before in
     let at = shown .before .before in
-    let given = begin at .pre in
+    let given = begin at .pre .1 in
     omega (
       arith,
       used-fits (at .decisions .inv) (shown .before .later .ensures) (is-first at) (shown .idle-shown .ensures) (given .0) (given .1)
@@ -121,7 +109,7 @@ add-o c =
     let told = test .before .before .before in
     let shown = told .before .before in
     let at = shown .before .before in
-    let given = begin at .pre in
+    let given = begin at .pre .1 in
     omega (
       arith,
       used-fits (at .decisions .inv) (shown .before .later .ensures) (is-first at) (shown .idle-shown .ensures) (given .0) (given .1)
@@ -135,7 +123,7 @@ decisions-less c =
     let told = test .before .before .before in
     let shown = told .before .before in
     let at = shown .before .before in
-    let given = begin at .pre in
+    let given = begin at .pre .1 in
     less-left (at .decisions .inv) (shown .before .later .ensures) (is-first at) (shown .idle-shown .ensures) (given .0) (given .1)
     (told .r .given .1) (test .if1 .left)
 
@@ -145,7 +133,7 @@ decisions-again c =
     let told = test .before .before .before in
     let shown = told .before .before in
     let at = shown .before .before in
-    let given = begin at .pre in
+    let given = begin at .pre .1 in
     decides-again (at .decisions .inv) (shown .before .later .ensures) (is-first at) (shown .idle-shown .ensures) (given .0) (given .1)
     (told .r .given .1) (test .if1 .left) (c .size-of .ensures)
 
@@ -185,10 +173,6 @@ past-idles-spec =
     index-2-least
     index-1-least-2
     least-requires
-    index-1-from
-    index-2-from
-    index-1-o
-    index-2-o
     decisions-holds
     later-requires
     idle-shown-requires

@@ -1,70 +1,25 @@
--- `deriving::instant` meets its contract. The loop's invariant: the least is that of the releases passed. Assumes nothing.
-use mathlib.Core.Path.{_≡_, refl}
-use mathlib.Core.Logic.{⊎-elim}
-use Prim.Native.Nat.{_-_, _≤_}
+-- `deriving::instant` meets its contract. Assumes nothing.
+use mathlib.Core.Path.{_∙_, ap}
+use Prim.Native.Nat.{max}
 use native.Mathlib.Omega.{arith}
-use lib.ListN.{take}
 use borrow.Author.Needs.{needs}
-use Rattle.timetables.specs.Instants.{least-of}
-use Rattle.timetables.proofs.Instants.{least-more}
+use Rattle.timetables.proofs.Instants.{least-first}
 use Rattle.deriving.proofs.instant.Statement.{statement}
 use Rattle.deriving.proofs.instant.Tie as tie
 
-abbrev Inv-loop : tie.InvT-loop
-Inv-loop n release free least₀ i₀ least i = (i ≤ n) × (least ≡ least-of (take i release))
+least-requires : tie.Need-least-requires
+least-requires c κs = search needs
 
-abbrev μ-loop : tie.MeasureT-loop
-μ-loop n release free least₀ i₀ least i = n - i
+later-requires : tie.Need-later-requires
+later-requires c κs = search needs
 
-loop-holds : tie.Need-loop-holds Inv-loop μ-loop
-loop-holds c = (omega arith, refl)
-
-mul-if1 : tie.Need-mul-if1 Inv-loop μ-loop
-mul-if1 c = search needs
-
-element-copy-out-if1 : tie.Need-element-copy-out-if1 Inv-loop μ-loop
-element-copy-out-if1 c = search needs
-
-mul-least : tie.Need-mul-least Inv-loop μ-loop
-mul-least c = search needs
-
-element-copy-out-least : tie.Need-element-copy-out-least Inv-loop μ-loop
-element-copy-out-least c = search needs
-
-add-i : tie.Need-add-i Inv-loop μ-loop
-add-i c = search needs
-
-loop-less : tie.Need-loop-less Inv-loop μ-loop
-loop-less c = search needs
-
-loop-again : tie.Need-loop-again Inv-loop μ-loop
-loop-again c =
-    let at = c .before .before .before in
-    let releases = at .before .args .release .now in
-    let more = least-more releases (at .loop .i) (omega arith) in
-    ⊎-elim (λ w. (omega arith, omega arith)) (λ w. (omega arith, omega arith)) (c .if1 .came)
-
-returns : tie.Need-returns Inv-loop μ-loop
-returns c = let all : c .before .before .loop .i ≡ c .before .before .before .args .n = omega arith in
-    rw (← all) (omega arith)
-
-returns-2 : tie.Need-returns-2 Inv-loop μ-loop
-returns-2 c = let all : c .before .before .loop .i ≡ c .before .before .before .args .n = omega arith in
-    rw (← all) (omega arith)
+returns : tie.Need-returns
+returns c =
+    let least = c .before in
+    let a = least .before .args in
+    c .later .ensures ∙ ap (max (a .free)) (least .least .ensures ∙ least-first (a .n) (a .release .now) (omega arith))
 
 pub instant-spec : {M : Type 1} → statement M
 instant-spec =
     tie.close
-    (tie.spec
-    Inv-loop
-    μ-loop
-    loop-holds
-    mul-if1
-    element-copy-out-if1
-    mul-least
-    element-copy-out-least
-    add-i
-    loop-less
-    loop-again
-    returns
-    returns-2)
+    (tie.spec least-requires later-requires returns)

@@ -1,70 +1,78 @@
 -- `dispatcher::go_on_good` meets its contract: each of its tests is one of the document's, in its order. Assumes nothing.
 use mathlib.Core.Path.{_≡_, refl, _∙_, ap}
 use mathlib.Core.Bool.{true}
-use mathlib.Core.List.{List}
-use Prim.Native.Nat.{ℕ, _+_, _≤_}
+use Prim.Native.Nat.{_+_, _≤_}
 use native.Mathlib.Omega.{arith}
-use lib.ListN.{getD}
+use borrow.Author.Needs.{needs}
 use borrow.Author.Tests.{not-false}
 use Rattle.rules.specs.declared.Task.{Task}
 use Rattle.rules.specs.declared.Dispatcher.{Dispatcher as State}
 use Rattle.rules.specs.Tasks.{task}
-use Rattle.rules.specs.Dispatcher.{set-of, counts-possible, possible}
+use Rattle.rules.specs.Dispatcher.{set-of, possible}
 use Rattle.rules.proofs.PossibleStates.{is-possible}
 use Rattle.numbers.specs.Numbers.{state-from}
-use Rattle.sets.specs.Kept.{figures-in}
+use Rattle.sets.specs.Kept.{hyperperiod-in}
 use Rattle.dispatcher.proofs.Lent.{next-lent, task-lent}
-use Rattle.dispatcher.proofs.Measuring.{can-measure}
-use Rattle.dispatcher.proofs.NextTurns.{impossible, too-many, no-such-task, not-in-time, is-in-time, too-early, too-late, goes-on, free-by-end}
+use Rattle.dispatcher.proofs.NextTurns.{few-tasks, impossible, too-many, no-such-task, not-in-time, is-in-time, too-early, too-late, goes-on, free-by-end}
 use Rattle.dispatcher.proofs.StoredStarts.{stored-turn, stored-as}
-use borrow.Author.Needs.{needs}
 use Rattle.dispatcher.proofs.go_on_good.Statement.{statement}
 use Rattle.dispatcher.proofs.go_on_good.Tie as tie
 
--- the state that going on starts from
-abbrev state : tie.After-measured → State
-state c = state-from (c .before .before .before .before .before .before .before .args .numbers .now)
+-- where the function begins, and the state that going on starts from
+abbrev begin : tie.After-measured → tie.Start
+begin c = c .before .before .before .before
 
--- the next job numbers are tested by the set's hyperperiod
-counts-are : (c : tie.After-measured) → c .measured .result ≡ counts-possible (c .before .before .before .before .before .before .before .args .f .hyperperiod) (set-of (state c) .tasks) (state c .next)
-counts-are c =
-    let figures = c .measured .ensures .figures ∙ ap figures-in (c .before .before .before .before .with-figures .ensures) in
-    c .measured .ensures .counts ∙ ap (λ (row : List ℕ). counts-possible (getD row 1 0) (set-of (state c) .tasks) (state c .next)) figures
+abbrev state : tie.After-measured → State
+state c = state-from (begin c .args .numbers .now)
+
+-- where the next job numbers are known to be possible, where the running job's task is known to be below n, and where that task is read
+abbrev counted : tie.Else2 → tie.Else1
+counted c = c .before .before .before .before .before .before
+
+abbrev below : tie.After-task-from → tie.Else2
+below c = c .before .before .before .before
+
+abbrev read : tie.After-last-and-in-time → tie.After-task-from
+read c = c .before .before
+
+abbrev measured : tie.After-task-from → tie.After-measured
+measured c = counted (below c) .before
 
 -- the running job's task is the one that was read
-the-task : (c : tie.After-task-from) → c .task-from .result ≡ task (set-of (state (c .before .before .before .before .before .before .before .before .before .before .before))) (state (c .before .before .before .before .before .before .before .before .before .before .before) .running .task)
-the-task c = c .task-from .ensures ∙ task-lent (c .before .before .before .before .before .before .before .before .before .before .before .before .before .before .before .before .before .before .args .numbers .now) (c .before .before .before .before .before .before .before .before .before .before .before .before .before .before .before .before .before .before .pre .few-tasks) _ (c .before .before .before .before .if2 .left)
+the-task : (c : tie.After-task-from) → let d = state (measured c) in c .task-from .result ≡ task (set-of d) (d .running .task)
+the-task c =
+    let start = begin (measured c) in
+    c .task-from .ensures ∙ task-lent (start .args .numbers .now) (few-tasks (start .pre)) _ (below c .if2 .left)
 
 -- after its tests the state is possible
-possible-here : (c : tie.Else3) → possible (state (c .before .before .before .before .before .before .before .before .before .before .before .before .before .before)) ≡ true
+possible-here : (c : tie.Else3) → possible (state (measured (read (c .before)))) ≡ true
 possible-here c =
-    let start = c .before .before .before .before .before .before .before .before .before .before .before .before .before .before .before .before .before .before .before .before .before in
-    is-in-time (start .pre) _ (counts-are (c .before .before .before .before .before .before .before .before .before .before .before .before .before .before)) (c .before .before .before .before .before .before .before .before .before .before .before .before .before .if1 .left) (c .before .before .before .before .before .before .before .if2 .left) _ (the-task (c .before .before .before))
-    (next-lent (start .args .numbers .now) _ (omega (arith, c .before .before .before .before .before .before .before .if2 .left, start .pre .few-tasks)))
-    (c .before .last-and-in-time .ensures) (c .if3 .left)
+    let t = read (c .before) in
+    let start = begin (measured t) in
+    is-in-time (start .pre) _ (measured t .measured .ensures .counts) (counted (below t) .if1 .left) (below t .if2 .left) _ (the-task t)
+    (next-lent (start .args .numbers .now) _ (omega (arith, below t .if2 .left, few-tasks (start .pre)))) (c .before .last-and-in-time .ensures) (c .if3 .left)
 
 -- and its running job leaves the processor free by the end of the cycle
-free-here : (c : tie.Else3) → state (c .before .before .before .before .before .before .before .before .before .before .before .before .before .before) .running .start + c .before .before .before .task-from .result .time ≤ c .before .before .before .before .before .before .before .before .before .before .before .before .before .before .before .before .before .before .before .before .before .args .f .hyperperiod
-free-here c = omega (arith, free-by-end (c .before .before .before .before .before .before .before .before .before .before .before .before .before .before .before .before .before .before .before .before .before .pre) (possible-here c), ap (λ (t : Task). t .time) (the-task (c .before .before .before)))
-
-element-copy-out-with-figures : tie.Need-element-copy-out-with-figures
-element-copy-out-with-figures c = search needs
-
-with-figures-requires : tie.Need-with-figures-requires
-with-figures-requires c κs = search needs
+free-here : (c : tie.Else3) →
+    let t = read (c .before) in
+    state (measured t) .running .start + t .task-from .result .time ≤ hyperperiod-in (begin (measured t) .args .kept .now)
+free-here c =
+    let t = read (c .before) in
+    omega (arith, free-by-end (begin (measured t) .pre) (possible-here c), ap (λ (u : Task). u .time) (the-task t))
 
 measured-requires : tie.Need-measured-requires
-measured-requires c κs = can-measure (c .before .before .before .before .before .before .pre) (c .before .before .before .with-figures .ensures) refl
+measured-requires c κs = search needs
 
 stop-requires : tie.Need-stop-requires
 stop-requires c κs = search needs
 
 returns : tie.Need-returns
 returns c =
-    let start = c .before .before .before .before .before .before .before .before .before .before in
+    let test = c .before .before in
+    let start = begin (test .before) in
     stored-as
-    (impossible (start .args .image .now) (state-from (start .args .numbers .now)) (start .args .end) (start .pre .not-stopped)
-    (too-many (start .pre) _ (counts-are (c .before .before .before)) (c .before .before .if1 .taken)))
+    (impossible (start .args .image .now) (state (test .before)) (start .args .end) (start .pre .not-stopped)
+    (too-many (start .pre) _ (test .before .measured .ensures .counts) (test .if1 .taken)))
     (c .stop .ensures)
 
 element-copy-out-if2 : tie.Need-element-copy-out-if2
@@ -73,8 +81,8 @@ element-copy-out-if2 c = search needs
 element-copy-out-last-and-in-time : tie.Need-element-copy-out-last-and-in-time
 element-copy-out-last-and-in-time c = search needs
 
-element-copy-out-t28 : tie.Need-element-copy-out-t28
-element-copy-out-t28 c = search needs
+element-copy-out-absolute : tie.Need-element-copy-out-absolute
+element-copy-out-absolute c = search needs
 
 element-copy-out-if2-2 : tie.Need-element-copy-out-if2-2
 element-copy-out-if2-2 c = search needs
@@ -84,10 +92,12 @@ stop-requires-2 c κs = search needs
 
 returns-2 : tie.Need-returns-2
 returns-2 c =
-    let start = c .before .before .before .before .before .before .before .before .before .before .before .before .before .before .before .before in
+    let test = c .before .before in
+    let passed = test .before .before .before .before .before .before in
+    let start = begin (passed .before) in
     stored-as
-    (impossible (start .args .image .now) (state-from (start .args .numbers .now)) (start .args .end) (start .pre .not-stopped)
-    (no-such-task (start .pre) _ (counts-are (c .before .before .before .before .before .before .before .before .before)) (c .before .before .before .before .before .before .before .before .if1 .left) (c .before .before .if2 .taken)))
+    (impossible (start .args .image .now) (state (passed .before)) (start .args .end) (start .pre .not-stopped)
+    (no-such-task (start .pre) _ (passed .before .measured .ensures .counts) (passed .if1 .left) (test .if2 .taken)))
     (c .stop2 .ensures)
 
 cast-i : tie.Need-cast-i
@@ -119,16 +129,24 @@ stop-requires-3 c κs = search needs
 
 returns-3 : tie.Need-returns-3
 returns-3 c =
-    let start = c .before .before .before .before .before .before .before .before .before .before .before .before .before .before .before .before .before .before .before .before .before .before .before in
+    let test = c .before .before in
+    let t = read (test .before) in
+    let start = begin (measured t) in
     stored-as
-    (impossible (start .args .image .now) (state-from (start .args .numbers .now)) (start .args .end) (start .pre .not-stopped)
-    (not-in-time (start .pre) _ (counts-are (c .before .before .before .before .before .before .before .before .before .before .before .before .before .before .before .before)) (c .before .before .before .before .before .before .before .before .before .before .before .before .before .before .before .if1 .left) (c .before .before .before .before .before .before .before .before .before .if2 .left) _ (the-task (c .before .before .before .before .before))
-    (next-lent (start .args .numbers .now) _ (omega (arith, c .before .before .before .before .before .before .before .before .before .if2 .left, start .pre .few-tasks)))
-    (c .before .before .before .last-and-in-time .ensures) (c .before .before .if3 .taken)))
+    (impossible (start .args .image .now) (state (measured t)) (start .args .end) (start .pre .not-stopped)
+    (not-in-time (start .pre) _ (measured t .measured .ensures .counts) (counted (below t) .if1 .left) (below t .if2 .left) _ (the-task t)
+    (next-lent (start .args .numbers .now) _ (omega (arith, below t .if2 .left, few-tasks (start .pre)))) (test .before .last-and-in-time .ensures)
+    (test .if3 .taken)))
     (c .stop3 .ensures)
 
-element-copy-out-absolute : tie.Need-element-copy-out-absolute
-element-copy-out-absolute c = search needs
+element-copy-out-absolute-2 : tie.Need-element-copy-out-absolute-2
+element-copy-out-absolute-2 c = search needs
+
+index-1-absolute : tie.Need-index-1-absolute
+index-1-absolute c = search needs
+
+index-2-absolute : tie.Need-index-2-absolute
+index-2-absolute c = search needs
 
 absolute-requires : tie.Need-absolute-requires
 absolute-requires c κs = search needs
@@ -138,10 +156,11 @@ refused-requires c κs = search needs
 
 returns-4 : tie.Need-returns-4
 returns-4 c =
-    let start = c .before .before .before .before .before .before .before .before .before .before .before .before .before .before .before .before .before .before .before .before .before .before .before .before .before in
+    let began = c .before .before in
+    let fine = began .before .before .before in
+    let start = begin (measured (read (fine .before))) in
     stored-as
-    (too-early (start .pre) (start .args .image .now) (start .args .end) (possible-here (c .before .before .before .before))
-    (omega (arith, c .before .before .absolute .ensures, c .before .if4 .taken)))
+    (too-early (start .pre) (start .args .image .now) (start .args .end) (possible-here fine) (omega (arith, began .absolute .ensures, c .before .if4 .taken)))
     (stored-turn _ _ (c .refused .ensures) (start .pre .long) refl)
 
 cast-if5 : tie.Need-cast-if5
@@ -152,52 +171,59 @@ stop-requires-4 c κs = search needs
 
 returns-5 : tie.Need-returns-5
 returns-5 c =
-    let start = c .before .before .before .before .before .before .before .before .before .before .before .before .before .before .before .before .before .before .before .before .before .before .before .before .before .before .before .before in
-    let began = c .before .before .before .before .before .absolute .ensures in
+    let early = c .before .before .before .before in
+    let began = early .before in
+    let fine = began .before .before .before in
+    let t = read (fine .before) in
+    let start = begin (measured t) in
     stored-as
-    (too-late (start .pre) (start .args .image .now) (start .args .end) (possible-here (c .before .before .before .before .before .before .before)) (omega (arith, began, c .before .before .before .before .if4 .left))
-    (the-task (c .before .before .before .before .before .before .before .before .before .before)) (omega (arith, began, c .before .before .before .before .if4 .left, c .before .before .if5 .taken)))
+    (too-late (start .pre) (start .args .image .now) (start .args .end) (possible-here fine) (omega (arith, began .absolute .ensures, early .if4 .left))
+    (the-task t) (omega (arith, began .absolute .ensures, early .if4 .left, c .before .before .if5 .taken)))
     (c .stop4 .ensures)
 
 add-next-turn : tie.Need-add-next-turn
-add-next-turn c = omega (arith, free-here (c .before .before .before .before .before .before .before .before .before .before), c .before .before .before .before .before .before .before .before .before .before .before .before .before .before .before .before .before .before .before .before .before .before .before .before .before .before .before .before .before .before .before .pre .good .short)
+add-next-turn c =
+    let fine = c .before .before .before .before .before .before .before .before .before .before in
+    omega (arith, free-here fine, begin (measured (read (fine .before))) .pre .keeps .good .short)
 
 next-turn-requires : tie.Need-next-turn-requires
 next-turn-requires c κs =
-    let d = state (c .before .before .before .before .before .before .before .before .before .before .before .before .before .before .before .before .before .before .before .before .before .before .before .before) in
-    let figures = c .before .before .before .before .before .before .before .before .before .before .before .before .before .before .before .before .before .before .before .before .before .before .before .before .measured .ensures .figures ∙ ap figures-in (c .before .before .before .before .before .before .before .before .before .before .before .before .before .before .before .before .before .before .before .before .before .before .before .before .before .before .before .before .with-figures .ensures) in
+    let fine = c .before .before .before .before .before .before .before .before .before .before in
+    let t = read (fine .before) in
+    let start = begin (measured t) in
     record {
-      possible = is-possible d (possible-here (c .before .before .before .before .before .before .before .before .before .before));
+      possible = is-possible (state (measured t)) (possible-here fine);
       starts = record {
-        long = c .before .before .before .before .before .before .before .before .before .before .before .before .before .before .before .before .before .before .before .before .before .before .before .before .before .before .before .before .before .before .before .pre .long;
-        n-tasks = ap (λ (row : List ℕ). getD row 0 0) figures;
-        fits = c .before .before .before .before .before .before .before .before .before .before .before .before .before .before .before .before .before .before .before .before .before .before .before .before .measured .ensures .fits (not-false _ (c .before .before .before .before .before .before .before .before .before .before .before .before .before .before .before .before .before .before .before .before .before .before .before .if1 .left)) _
-            (omega (arith, free-here (c .before .before .before .before .before .before .before .before .before .before), ap (λ (row : List ℕ). getD row 1 0) figures));
+        long = start .pre .long;
+        n-tasks = start .pre .n-tasks;
+        stands = record { fits = measured t .measured .ensures .fits (not-false _ (counted (below t) .if1 .left)); by-end = free-here fine };
       };
-      free-from = ap (λ (t : Task). d .running .start + t .time) (the-task (c .before .before .before .before .before .before .before .before .before .before .before .before .before));
+      free-from = ap (λ (u : Task). state (measured t) .running .start + u .time) (the-task t);
     }
 
 returns-6 : tie.Need-returns-6
 returns-6 c =
-    let start = c .before .before .before .before .before .before .before .before .before .before .before .before .before .before .before .before .before .before .before .before .before .before .before .before .before .before .before .before .before .before .before .before in
-    let began = c .before .before .before .before .before .before .before .before .before .absolute .ensures in
+    let test = c .before .before .before .before .before in
+    let early = test .before .before in
+    let began = early .before in
+    let fine = began .before .before .before in
+    let t = read (fine .before) in
+    let start = begin (measured t) in
     stored-as
-    (goes-on (start .pre) (start .args .image .now) (start .args .end) (possible-here (c .before .before .before .before .before .before .before .before .before .before .before)) (omega (arith, began, c .before .before .before .before .before .before .before .before .if4 .left))
-    (the-task (c .before .before .before .before .before .before .before .before .before .before .before .before .before .before)) (omega (arith, began, c .before .before .before .before .before .before .before .before .if4 .left, c .before .before .before .before .before .before .if5 .left)))
+    (goes-on (start .pre) (start .args .image .now) (start .args .end) (possible-here fine) (omega (arith, began .absolute .ensures, early .if4 .left))
+    (the-task t) (omega (arith, began .absolute .ensures, early .if4 .left, test .if5 .left)))
     (c .next-turn .ensures)
 
 pub go-on-good-spec : {M : Type 1} → statement M
 go-on-good-spec =
     tie.close
     (tie.spec
-    element-copy-out-with-figures
-    with-figures-requires
     measured-requires
     stop-requires
     returns
     element-copy-out-if2
     element-copy-out-last-and-in-time
-    element-copy-out-t28
+    element-copy-out-absolute
     element-copy-out-if2-2
     stop-requires-2
     returns-2
@@ -211,7 +237,9 @@ go-on-good-spec =
     last-and-in-time-requires
     stop-requires-3
     returns-3
-    element-copy-out-absolute
+    element-copy-out-absolute-2
+    index-1-absolute
+    index-2-absolute
     absolute-requires
     refused-requires
     returns-4

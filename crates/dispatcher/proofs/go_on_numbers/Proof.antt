@@ -1,17 +1,30 @@
 -- `dispatcher::go_on_numbers` meets its contract: 23, or by the set. Assumes nothing.
 use mathlib.Core.Path.{_≡_, refl, sym, _∙_}
+use mathlib.Core.Bool.{false}
+use native.Mathlib.Omega.{arith}
 use lib.ListN.{length}
-use Rattle.rules.specs.Dispatcher.{number-count}
+use borrow.Author.Needs.{needs}
+use Rattle.rules.specs.Dispatcher.{number-count, is-stopped}
 use Rattle.numbers.specs.Numbers.{state-from}
+use Rattle.sets.proofs.RowsKept.{zero-rows}
 use Rattle.dispatcher.proofs.NextTurns.{stays-stopped, impossible-set, with-good-set}
 use Rattle.dispatcher.proofs.StoredStarts.{stored-turn, stored-as}
-use borrow.Author.Needs.{needs}
 use Rattle.dispatcher.proofs.go_on_numbers.Statement.{statement}
 use Rattle.dispatcher.proofs.go_on_numbers.Tie as tie
 
--- there are as many numbers as a state has
-long : (c : tie.After-is-stopped) → length (c .before .before .before .before .args .numbers .now) ≡ number-count
+-- where the function begins, and that there are as many numbers as a state has
+abbrev begin : tie.After-is-stopped → tie.Start
+begin c = c .before .before .before .before
+
+long : (c : tie.After-is-stopped) → length (begin c .args .numbers .now) ≡ number-count
 long c = search needs
+
+-- where the set is judged, of a state that is not stopped
+abbrev running : tie.After-judge-kept → tie.Else1
+running c = c .before .before .before .before .before
+
+not-stopped : (c : tie.After-judge-kept) → is-stopped (state-from (begin (running c .before) .args .numbers .now)) ≡ false
+not-stopped c = let test = running c in sym (test .before .is-stopped .ensures) ∙ test .if1 .left
 
 is-stopped-requires : tie.Need-is-stopped-requires
 is-stopped-requires c κs = search needs
@@ -21,17 +34,17 @@ refused-requires c κs = search needs
 
 returns : tie.Need-returns
 returns c =
-    let start = c .before .before .before .before .before .before in
+    let tested = c .before .before in
+    let start = begin tested in
     stored-as
-    (stays-stopped (start .args .image .now) (state-from (start .args .numbers .now)) (start .args .end)
-    (sym (c .before .before .is-stopped .ensures) ∙ c .before .if1 .taken))
-    (stored-turn _ _ (c .refused .ensures) (long (c .before .before)) refl)
+    (stays-stopped (start .args .image .now) (state-from (start .args .numbers .now)) (start .args .end) (sym (tested .is-stopped .ensures) ∙ c .before .if1 .taken))
+    (stored-turn _ _ (c .refused .ensures) (long tested) refl)
 
-element-copy-out-judge-numbers : tie.Need-element-copy-out-judge-numbers
-element-copy-out-judge-numbers c = search needs
+element-copy-out-judge-kept : tie.Need-element-copy-out-judge-kept
+element-copy-out-judge-kept c = search needs
 
-judge-numbers-requires : tie.Need-judge-numbers-requires
-judge-numbers-requires c κs = search needs
+judge-kept-requires : tie.Need-judge-kept-requires
+judge-kept-requires c κs = (omega (arith, long (c .before .before .before .before .before)), zero-rows)
 
 enum-told : tie.Need-enum-told
 enum-told c = search needs
@@ -39,24 +52,30 @@ enum-told c = search needs
 stop-requires : tie.Need-stop-requires
 stop-requires c κs = search needs
 
-enum-known-f : tie.Need-enum-known-f
-enum-known-f c = search needs
+enum-told-2 : tie.Need-enum-told-2
+enum-told-2 c = search needs
 
 go-on-good-requires : tie.Need-go-on-good-requires
 go-on-good-requires c κs =
-    with-good-set (c .before .before .before .before .before .before .before .before .before .before .before .before .before .args .numbers .now) _ (long (c .before .before .before .before .before .before .before .before .before)) (sym (c .before .before .before .before .before .before .before .before .before .is-stopped .ensures) ∙ c .before .before .before .before .before .before .before .before .if1 .left)
-    (sym (c .before .before .f .given .1) ∙ c .before .before .before .before .judge-numbers .ensures)
+    let told = c .before .before in
+    let judged = told .before .before in
+    let j = judged .judge-kept .ensures in
+    let stops = running judged .before in
+    with-good-set (begin stops .args .numbers .now) _ (long stops) (not-stopped judged) (sym (told .enum-told2 .given .1) ∙ j .answer)
+    (j .keeps _ (told .enum-told2 .given .1))
 
 returns-2 : tie.Need-returns-2
 returns-2 c =
-    let start = c .before .before .before .before .before .before .before .before .before .before .before .before .before in
+    let told = c .before .before in
+    let judged = told .before .before in
+    let start = begin (running judged .before) in
     stored-as
-    (impossible-set (start .args .image .now) (state-from (start .args .numbers .now)) (start .args .end) _
-    (sym (c .before .before .before .before .before .before .before .before .before .is-stopped .ensures) ∙ c .before .before .before .before .before .before .before .before .if1 .left) (sym (c .before .before .enum-told .given .1) ∙ c .before .before .before .before .judge-numbers .ensures))
+    (impossible-set (start .args .image .now) (state-from (start .args .numbers .now)) (start .args .end) _ (not-stopped judged)
+    (sym (told .enum-told .given .1) ∙ judged .judge-kept .ensures .answer))
     (c .stop .ensures)
 
 returns-3 : tie.Need-returns-3
-returns-3 c = c .go-on-good .ensures
+returns-3 c = search needs
 
 pub go-on-numbers-spec : {M : Type 1} → statement M
 go-on-numbers-spec =
@@ -65,11 +84,11 @@ go-on-numbers-spec =
     is-stopped-requires
     refused-requires
     returns
-    element-copy-out-judge-numbers
-    judge-numbers-requires
+    element-copy-out-judge-kept
+    judge-kept-requires
     enum-told
     stop-requires
-    enum-known-f
+    enum-told-2
     go-on-good-requires
     returns-2
     returns-3)

@@ -1,9 +1,9 @@
 -- `dispatcher::next_turn` meets its contract: in this cycle, in the next, or after the last. Assumes nothing.
 use mathlib.Core.Path.{refl}
 use borrow.Author.Tests.{not-true, not-false}
+use borrow.Author.Needs.{needs}
 use Rattle.dispatcher.proofs.NextTurns.{next-cycle, in-this-cycle, in-the-next, after-last-cycle}
 use Rattle.dispatcher.proofs.StoredStarts.{stored-turn, stored-as}
-use borrow.Author.Needs.{needs}
 use Rattle.dispatcher.proofs.next_turn.Statement.{statement}
 use Rattle.dispatcher.proofs.next_turn.Tie as tie
 
@@ -15,10 +15,10 @@ start-next-requires c κs = search needs
 
 returns : tie.Need-returns
 returns c =
-    let start = c .before .before .before .before .before in
-    stored-as
-    (in-this-cycle (start .pre) (start .args .image .now) _ (c .before .before .before .all-started .ensures) (not-true _ (c .before .before .if1 .taken)))
-    (c .start-next .ensures)
+    let test = c .before .before in
+    let tested = test .before in
+    let start = tested .before .before in
+    stored-as (in-this-cycle (start .pre) (start .args .image .now) _ (tested .all-started .ensures) (not-true _ (test .if1 .taken))) (c .start-next .ensures)
 
 element-copy-out-if2 : tie.Need-element-copy-out-if2
 element-copy-out-if2 c = search needs
@@ -28,9 +28,11 @@ refused-requires c κs = search needs
 
 returns-2 : tie.Need-returns-2
 returns-2 c =
-    let start = c .before .before .before .before .before .before in
+    let test = c .before .before .before in
+    let tested = test .before in
+    let start = tested .before .before in
     stored-as
-    (after-last-cycle (start .pre) (start .args .image .now) _ (c .before .before .before .before .all-started .ensures) (not-false _ (c .before .before .before .if1 .left)) (c .before .if2 .taken))
+    (after-last-cycle (start .pre) (start .args .image .now) _ (tested .all-started .ensures) (not-false _ (test .if1 .left)) (c .before .if2 .taken))
     (stored-turn _ _ (c .refused .ensures) (start .pre .starts .long) refl)
 
 index-1-n : tie.Need-index-1-n
@@ -45,20 +47,24 @@ cast-n c = search needs
 begin-again-requires : tie.Need-begin-again-requires
 begin-again-requires c κs = search needs
 
-first-releases-requires : tie.Need-first-releases-requires
-first-releases-requires c κs = search needs
+element-copy-out-first : tie.Need-element-copy-out-first
+element-copy-out-first c = search needs
 
 start-next-requires-2 : tie.Need-start-next-requires-2
 start-next-requires-2 c κs =
-    let begun = c .before .before .before .before .before .begin-again .ensures in
-    next-cycle (c .before .before .before .before .before .before .before .before .before .before .before .before .before .pre) (begun .1) (begun .0) (c .before .before .first-releases .ensures)
+    let again = c .before .before .before in
+    next-cycle (again .before .before .before .before .before .before .before .before .pre) (again .begin-again .ensures .1) (again .begin-again .ensures .0)
 
 returns-3 : tie.Need-returns-3
 returns-3 c =
-    let start = c .before .before .before .before .before .before .before .before .before .before .before .before .before .before in
+    let again = c .before .before .before .before in
+    let last = again .before .before .before in
+    let test = last .before .before in
+    let tested = test .before in
+    let start = tested .before .before in
     stored-as
-    (in-the-next (start .pre) (start .args .image .now) _ (c .before .before .before .before .before .before .before .before .before .before .before .before .all-started .ensures) (not-false _ (c .before .before .before .before .before .before .before .before .before .before .before .if1 .left)) (c .before .before .before .before .before .before .before .before .before .if2 .left)
-    (c .before .before .before .before .before .before .begin-again .ensures .0))
+    (in-the-next (start .pre) (start .args .image .now) _ (tested .all-started .ensures) (not-false _ (test .if1 .left)) (last .if2 .left)
+    (again .begin-again .ensures .0))
     (c .start-next2 .ensures)
 
 pub next-turn-spec : {M : Type 1} → statement M
@@ -75,6 +81,6 @@ next-turn-spec =
     index-2-n
     cast-n
     begin-again-requires
-    first-releases-requires
+    element-copy-out-first
     start-next-requires-2
     returns-3)

@@ -2,6 +2,7 @@
 use mathlib.Core.Path.{_≡_, _∙_, ap}
 use Prim.Native.Nat.{_+_, _*_, _<_}
 use native.Mathlib.Omega.{arith}
+use borrow.Author.Needs.{needs}
 use Rattle.rules.specs.declared.StartAnswer.the-variants.{Start}
 use Rattle.rules.specs.declared.Dispatcher.{Dispatcher as State}
 use Rattle.rules.specs.Priority.{slot}
@@ -11,36 +12,37 @@ use Rattle.sets.specs.Kept.{tasks-in, hyperperiod-in}
 use Rattle.decision.specs.declared.Found.{Found}
 use Rattle.decision.specs.declared.NextStart.the-variants.{Starts}
 use Rattle.decision.specs.Next.{FindsNext}
-use Rattle.dispatcher.specs.States.{stands-at}
+use Rattle.dispatcher.specs.States.{stands-at, front-at}
 use Rattle.dispatcher.proofs.Lent.{next-lent}
-use Rattle.dispatcher.proofs.Starting.{stuck-next, found-task, found-turn}
+use Rattle.dispatcher.proofs.Starting.{stands-made, stuck-next, found-task, found-turn}
 use Rattle.dispatcher.proofs.StoredStarts.{stored-turn, stored-as}
-use borrow.Author.Needs.{needs}
 use Rattle.dispatcher.proofs.start_next.Statement.{statement}
 use Rattle.dispatcher.proofs.start_next.Tie as tie
 
--- the state that the start is made from
-abbrev state : tie.After-one-start → State
-state c = state-from (c .before .before .before .before .before .before .before .before .before .before .before .args .numbers .now)
+-- where the function begins, and the state that the start is made from
+abbrev begin : tie.After-at → tie.Start
+begin c = c .before .before .before .before .before .before .before .before .before .before
+
+abbrev state : tie.After-at → State
+state c = state-from (begin c .args .numbers .now)
 
 -- the answer is the next start from where the state stands
 answered : (c : tie.After-one-start) →
-    FindsNext (c .before .before .before .before .before .before .before .before .before .before .before .args .image .now) (c .before .before .before .before .before .before .before .before .before .before .before .args .kept .now) (stands-at (state c) (c .before .before .before .before .before .before .before .before .before .before .before .args .release .now) (c .before .before .before .before .before .before .before .before .before .before .before .args .free)) (c .one-start .result)
+    let at = c .before in
+    let a = begin at .args in
+    FindsNext (a .image .now) (a .kept .now) (stands-at (state at) (a .release .now)) (front-at (state at) (a .free)) (c .one-start .result)
 answered c = rw (c .before .before .before .before .before .before .numbers-from .ensures, c .before .before .before .numbers-from2 .ensures) at (c .one-start .ensures)
 
 -- what is known of a start that is found
 found-here : (c : tie.After-one-start) (f : Found) → c .one-start .result ≡ Starts f →
-    (f .task < tasks-in (c .before .before .before .before .before .before .before .before .before .before .before .args .kept .now)) × (slot (state c .next) (f .task) < hyperperiod-in (c .before .before .before .before .before .before .before .before .before .before .before .args .kept .now))
-found-here c f e = found-task (c .before .before .before .before .before .before .before .before .before .before .before .args .image .now) (state c) (c .before .before .before .before .before .before .before .before .before .before .before .pre .fits) _ (answered c) f e
+    let a = begin (c .before) .args in
+    (f .task < tasks-in (a .kept .now)) × (slot (state (c .before) .next) (f .task) < hyperperiod-in (a .kept .now))
+found-here c f e =
+    let start = begin (c .before) in
+    found-task (start .args .image .now) (state (c .before)) (start .pre .stands) _ (answered c) f e
 
-array-write-instants : tie.Need-array-write-instants
-array-write-instants c = search needs
-
-element-copy-out-instants : tie.Need-element-copy-out-instants
-element-copy-out-instants c = search needs
-
-array-write-instants-2 : tie.Need-array-write-instants-2
-array-write-instants-2 c = search needs
+element-copy-out-t14 : tie.Need-element-copy-out-t14
+element-copy-out-t14 c = search needs
 
 numbers-from-requires : tie.Need-numbers-from-requires
 numbers-from-requires c κs = search needs
@@ -50,8 +52,7 @@ numbers-from-requires-2 c κs = search needs
 
 one-start-requires : tie.Need-one-start-requires
 one-start-requires c κs =
-    let start = c .before .before .before .before .before .before .before .before .before .before in
-    (set-of (state-from (start .args .numbers .now)), rw (c .before .before .before .before .before .numbers-from .ensures, c .before .before .numbers-from2 .ensures) (start .pre .fits))
+    (set-of (state c), stands-made (state c) (c .before .before .before .before .before .numbers-from .ensures) (c .before .before .numbers-from2 .ensures) (begin c .pre .stands))
 
 enum-told : tie.Need-enum-told
 enum-told c = search needs
@@ -64,18 +65,20 @@ enum-known-f c = search needs
 
 store-start-requires : tie.Need-store-start-requires
 store-start-requires c κs =
-    let start = c .before .before .before .before .before .before .before .before .before .before .before .before .before .before .before in
-    let f = c .before .before .f .given .0 .0 in
-    let found = found-here (c .before .before .before .before) f (c .before .before .f .given .1) in
-    let few = start .pre .fits .set .few in
-    let next = next-lent (start .args .numbers .now) (f .task) (omega (arith, found .0, few)) in
-    (omega (arith, found .0, few), (omega (arith, found .1, next, start .pre .fits .set .good .short), start .pre .long))
+    let told = c .before .before in
+    let made = told .before .before in
+    let start = begin (made .before) in
+    let f = told .f .given .0 .0 in
+    let found = found-here made f (told .f .given .1) in
+    let set = start .pre .stands .fits .set in
+    let next = next-lent (start .args .numbers .now) (f .task) (omega (arith, found .0, set .few)) in
+    (omega (arith, found .0, set .few), (omega (arith, found .1, next, set .good .short), start .pre .long))
 
 element-copy-out-cycle : tie.Need-element-copy-out-cycle
 element-copy-out-cycle c = search needs
 
-element-copy-out-t33 : tie.Need-element-copy-out-t33
-element-copy-out-t33 c = search needs
+element-copy-out-t28 : tie.Need-element-copy-out-t28
+element-copy-out-t28 c = search needs
 
 index-1-absolute : tie.Need-index-1-absolute
 index-1-absolute c = search needs
@@ -88,17 +91,22 @@ absolute-requires c κs = search needs
 
 returns : tie.Need-returns
 returns c =
-    let start = c .before .before .before .before .before .before .before .before .before .before .before .before .before .before .before in
-    stored-as (stuck-next (start .args .image .now) (state (c .before .before .before .before)) (start .pre .fits) _ (answered (c .before .before .before .before)) _ (c .before .before .enum-told .given .1))
+    let told = c .before .before in
+    let made = told .before .before in
+    let start = begin (made .before) in
+    stored-as (stuck-next (start .args .image .now) (state (made .before)) (start .pre .stands) _ (answered made) _ (told .enum-told .given .1))
     (c .stop .ensures)
 
 returns-2 : tie.Need-returns-2
 returns-2 c =
-    let start = c .before .before .before .before .before .before .before .before .before .before .before .before .before .before .before .before .before .before .before .before in
-    let f = c .before .before .before .before .before .before .before .f .given .0 .0 in
-    let stored = c .before .before .before .before .store-start .ensures in
+    let kept = c .before .before .before .before in
+    let told = kept .before .before .before in
+    let made = told .before .before in
+    let start = begin (made .before) in
+    let f = told .f .given .0 .0 in
+    let stored = kept .store-start .ensures in
     let h = hyperperiod-in (start .args .kept .now) in
-    stored-as (found-turn (start .args .image .now) (state (c .before .before .before .before .before .before .before .before .before)) (start .pre .fits) _ (answered (c .before .before .before .before .before .before .before .before .before)) f (c .before .before .before .before .before .before .before .f .given .1))
+    stored-as (found-turn (start .args .image .now) (state (made .before)) (start .pre .stands) _ (answered made) f (told .f .given .1))
     (stored-turn _ _
     (λ k.
     Start
@@ -114,9 +122,7 @@ pub start-next-spec : {M : Type 1} → statement M
 start-next-spec =
     tie.close
     (tie.spec
-    array-write-instants
-    element-copy-out-instants
-    array-write-instants-2
+    element-copy-out-t14
     numbers-from-requires
     numbers-from-requires-2
     one-start-requires
@@ -125,7 +131,7 @@ start-next-spec =
     enum-known-f
     store-start-requires
     element-copy-out-cycle
-    element-copy-out-t33
+    element-copy-out-t28
     index-1-absolute
     index-2-absolute
     absolute-requires

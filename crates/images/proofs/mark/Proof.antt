@@ -6,16 +6,16 @@ use Prim.Native.Nat.{_≤_, _-_}
 use native.Mathlib.Omega.{arith}
 use borrow.Author.Needs.{needs}
 use lib.ListN.{drop}
-use Rattle.rules.specs.Marks.{marks, mark-in}
+use Rattle.rules.specs.Marks.{mark-count, marks, mark-in}
 use Rattle.images.proofs.TableLaws.{mark-here, mark-later}
 use Rattle.images.proofs.mark.Statement.{statement}
 use Rattle.images.proofs.mark.Tie as tie
 
 abbrev Inv-loop : tie.InvT-loop
-Inv-loop a b k₀ k = (k ≤ 6) × (mark-in marks a b ≡ mark-in (drop k marks) a b)
+Inv-loop a b k₀ k = (k ≤ mark-count) × (mark-in marks a b ≡ mark-in (drop k marks) a b)
 
 abbrev μ-loop : tie.MeasureT-loop
-μ-loop a b k₀ k = 6 - k
+μ-loop a b k₀ k = mark-count - k
 
 loop-holds : tie.Need-loop-holds Inv-loop μ-loop
 loop-holds c = (omega arith, refl)
@@ -49,7 +49,7 @@ loop-again c =
 
 returns-2 : tie.Need-returns-2 Inv-loop μ-loop
 returns-2 c =
-    let e : c .before .loop .k ≡ 6 = omega arith in
+    let e : c .before .loop .k ≡ mark-count = omega arith in
     (omega arith, sym (rw e at (c .before .loop .inv .1)))
 
 pub mark-spec : {M : Type 1} → statement M

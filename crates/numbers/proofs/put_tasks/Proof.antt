@@ -7,7 +7,7 @@ use borrow.Author.Needs.{needs}
 use lib.ListN.{length, take, getD}
 use lib.Seq.{sets, length-sets, take-all}
 use Rattle.rules.specs.declared.Task.{Task}
-use Rattle.rules.specs.Dispatcher.{task-numbers, zero-task}
+use Rattle.rules.specs.Dispatcher.{numbers-a-task, task-numbers, zero-task}
 use Rattle.rules.proofs.Arrays.{slots-counted}
 use Rattle.numbers.proofs.StoredNumbers.{task-more}
 use Rattle.numbers.proofs.put_tasks.Statement.{statement}
@@ -55,7 +55,7 @@ loop-again c =
     let many : length tasks ≡ 16 = search (needs, slots-counted) in (
       omega arith,
       c .before .before .put-task .ensures
-          ∙ ap (λ (x : List ℕ). sets x (args .at + 4 * k) (task-numbers (getD tasks k zero-task ∷ []))) (at .loop .inv .1)
+          ∙ ap (λ (x : List ℕ). sets x (args .at + numbers-a-task * k) (task-numbers (getD tasks k zero-task ∷ []))) (at .loop .inv .1)
           ∙ task-more (args .numbers .now) tasks (args .at) k (omega arith),
     )
 

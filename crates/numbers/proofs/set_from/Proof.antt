@@ -7,14 +7,14 @@ use native.Mathlib.Omega.{arith}
 use borrow.Author.Needs.{needs}
 use lib.ListN.{set}
 use Rattle.rules.specs.declared.Task.{Task}
-use Rattle.rules.specs.Dispatcher.{zero-task}
+use Rattle.rules.specs.Dispatcher.{numbers-a-task, zero-task}
 use Rattle.numbers.specs.Numbers.{task-from}
 use Rattle.numbers.proofs.FilledSlots.{filled, none-filled, one-more, all-filled}
 use Rattle.numbers.proofs.set_from.Statement.{statement}
 use Rattle.numbers.proofs.set_from.Tie as tie
 
 abbrev Inv-loop : tie.InvT-loop
-Inv-loop n numbers at tasks₀ i₀ tasks i = (i ≤ 16) × (tasks ≡ filled (λ (k : ℕ). task-from numbers (at + 4 * k)) zero-task i)
+Inv-loop n numbers at tasks₀ i₀ tasks i = (i ≤ 16) × (tasks ≡ filled (λ (k : ℕ). task-from numbers (at + numbers-a-task * k)) zero-task i)
 
 abbrev μ-loop : tie.MeasureT-loop
 μ-loop n numbers at tasks₀ i₀ tasks i = 16 - i

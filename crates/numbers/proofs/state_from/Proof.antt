@@ -1,6 +1,6 @@
 -- `numbers::state_from` meets its contract, part by part. Assumes nothing.
 use borrow.Author.Needs.{needs}
-use Rattle.rules.specs.Dispatcher.{cycle-at, task-at, job-at, start-at}
+use Rattle.rules.specs.Dispatcher.{cycle-position, task-position, job-position, start-position}
 use Rattle.numbers.specs.Numbers.{number-at}
 use Rattle.numbers.proofs.state_from.Statement.{statement}
 use Rattle.numbers.proofs.state_from.Tie as tie
@@ -41,8 +41,8 @@ returns c =
     λ i. record {
       set = at-set .set-from .ensures i;
       next = at-numbers .numbers-from .ensures i;
-      cycle = number-at lent cycle-at;
-      running = record { task = number-at lent task-at; job = number-at lent job-at; start = number-at lent start-at };
+      cycle = number-at lent cycle-position;
+      running = record { task = number-at lent task-position; job = number-at lent job-position; start = number-at lent start-position };
       now = at-offsets .offsets-from .ensures i;
       first = c .offsets-from2 .ensures i;
     }

@@ -1,11 +1,11 @@
 -- `rebuilding::rebuild` meets its contract: a refusal changes nothing; else set, entries and EN are put one behind the other. Assumes nothing.
-use mathlib.Core.Path.{_≡_}
+use mathlib.Core.Path.{_∙_}
 use mathlib.Core.List.{List}
 use Prim.Native.Nat.{ℕ}
 use native.Mathlib.Omega.{arith}
 use lib.ListN.{length}
 use borrow.Author.Needs.{needs}
-use Rattle.rules.proofs.Arrays.{slots-counted}
+use Rattle.rules.specs.Tasks.{memory-set}
 use Rattle.tables.specs.declared.Tables.{Tables}
 use Rattle.rebuilding.specs.Rebuilt.{TimetableBehind}
 use Rattle.rebuilding.proofs.Rebuilding.{refused-so, as-many-entries, jobs-kept, behind-good, too-short, answered, put-out}
@@ -20,11 +20,8 @@ abbrev judged : tie.Else1 → Tables
 judged c = c .before .before .judge .result
 
 -- there is a timetable behind it
-behind : (c : tie.Else1) → TimetableBehind (image-of c) (judged c .set) (judged c .first) (c .before .before .judge .ensures .good (c .if1 .left) .entries)
+behind : (c : tie.Else1) → TimetableBehind (image-of c) (memory-set (judged c .set)) (judged c .first) (c .before .before .judge .ensures .good (c .if1 .left) .entries)
 behind c = behind-good (c .before .before .judge .ensures .good (c .if1 .left))
-
-slots : (c : tie.Else1) → length (judged c .set .tasks) ≡ 16
-slots c = search (needs, slots-counted)
 
 judge-requires : tie.Need-judge-requires
 judge-requires c κs = search needs
@@ -68,7 +65,7 @@ returns-2 : tie.Need-returns-2
 returns-2 c =
     let q = c .before .before .before .before .before in
     let good = c .before .before .before .before .before .before .before .judge .ensures .good (q .if1 .left) in
-    too-short _ _ _ _ (behind q) (slots q) _ (jobs-kept _ _ _ _ (behind q) (good .keeps)) _ _ (omega (arith, c .before .head-length .ensures))
+    too-short _ _ _ _ (behind q) _ (good .tasks-many) _ (jobs-kept _ _ _ _ (behind q) (good .keeps)) _ _ (omega (arith, c .before .head-length .ensures))
     (c .if2 .taken)
 
 put-set-requires : tie.Need-put-set-requires
@@ -77,20 +74,24 @@ put-set-requires c κs = (omega (arith, c .before .before .before .before .befor
 put-entries-requires : tie.Need-put-entries-requires
 put-entries-requires c κs =
     let q = c .before .before .before .before .before .before .before .before .before .before .before in
-    let good = c .before .before .before .before .before .before .before .before .before .before .before .before .before .judge .ensures .good (q .if1 .left) in
-    record {
-      entries = good .entries;
-      behind = behind q;
-      keeps = good .keeps;
-      room = omega (
-        arith,
-        c .before .before .before .before .before .before .if2 .left,
-        c .before .before .before .before .put-set .kept .0,
-        c .before .before .before .before .before .before .before .head-length .ensures,
-        jobs-kept _ _ _ _ (behind q) (good .keeps),
-        as-many-entries _ _ _ _ (behind q),
-      );
-    }
+    let good = c .before .before .before .before .before .before .before .before .before .before .before .before .before .judge .ensures .good (q .if1 .left) in (
+      _,
+      record {
+        entries = good .entries;
+        behind = behind q;
+        keeps = good .keeps;
+        room = omega (
+          arith,
+          c .before .before .before .before .before .before .if2 .left,
+          c .before .before .before .before .put-set .kept .0,
+          c .before .before .before .before .before .before .before .head-length .ensures,
+          jobs-kept _ _ _ _ (behind q) (good .keeps),
+          as-many-entries _ _ _ _ (behind q),
+          good .keeps .n-tasks,
+          good .tasks-many,
+        );
+      },
+    )
 
 head-count-requires : tie.Need-head-count-requires
 head-count-requires c κs = search needs
@@ -116,9 +117,9 @@ returns-3 c =
     let placed = c .before .before .before .before .before .before .before .before .before .before .before .before .before .before .before .head-length .ensures in
     let jobs = jobs-kept _ _ _ _ (behind q) (good .keeps) in
     record {
-      answer = answered _ _ _ _ (behind q) (slots q) _ jobs _ _ (omega (arith, placed)) (c .before .before .before .before .before .before .before .before .before .before .before .before .before .before .if2 .left);
-      output = put-out _ _ _ _ (behind q) (slots q) _ jobs _ _ (omega (arith, placed)) (c .before .before .before .before .before .before .before .before .before .before .before .before .before .before .if2 .left) _ _ _ _ _ (c .before .before .before .before .before .before .before .before .before .before .before .before .put-set .ensures)
-          (c .before .before .before .before .before .before .before .put-entries .ensures _ (behind q)) (c .before .before .put-end .ensures) (omega (arith, placed)) (omega (arith, c .before .before .before .before .head-count .ensures));
+      answer = answered _ _ _ _ (behind q) _ (good .tasks-many) _ jobs _ _ (omega (arith, placed)) (c .before .before .before .before .before .before .before .before .before .before .before .before .before .before .if2 .left);
+      output = put-out _ _ _ _ (behind q) _ (good .tasks-many) _ jobs _ _ (omega (arith, placed)) (c .before .before .before .before .before .before .before .before .before .before .before .before .before .before .if2 .left) _ _ _ _ _ (c .before .before .before .before .before .before .before .before .before .before .before .before .put-set .ensures)
+          (rw (good .keeps .n-tasks ∙ good .tasks-many) at (c .before .before .before .before .before .before .before .put-entries .ensures _ _ (good .keeps) (behind q))) (c .before .before .put-end .ensures) (omega (arith, placed)) (omega (arith, c .before .before .before .before .head-count .ensures));
     }
 
 pub rebuild-spec : {M : Type 1} → statement M

@@ -1,34 +1,20 @@
--- `replay::cycle` meets its contract. Assumes nothing.
-use mathlib.Core.Path.{_≡_}
-use lib.ListN.{length}
+-- `replay::cycle` meets its contract: a run of as many starts as the cycle has jobs, from where it begins. Assumes nothing.
 use borrow.Author.Needs.{needs}
 use Rattle.fields.specs.Number.{Bytes}
 use Rattle.fields.proofs.Laws.{bytes-by-index}
-use Rattle.rules.proofs.Arrays.{slots-counted}
-use Rattle.replay.proofs.Cycles.{cycle-run, cycle-can}
+use Rattle.replay.proofs.Cycles.{all-kept, cycle-can}
 use Rattle.replay.proofs.cycle.Statement.{statement}
 use Rattle.replay.proofs.cycle.Tie as tie
-use Rattle.rules.specs.Tasks.{memory-set}
 
--- where the first releases are known, and where the function begins
-abbrev known : tie.After-starts-arg → tie.After-first-releases
-known c = c .before .before .before .before
+-- where the image is known, and that it is bytes
+abbrev known : tie.After-starts-arg → tie.After-shared-slice-known
+known c = c .before .before .before .before .before .before
 
-abbrev begun : tie.After-first-releases → tie.Start
-begun c = c .before .before .before
+bytes : (c : tie.After-shared-slice-known) → Bytes (c .before .args .image .now)
+bytes c = bytes-by-index (c .before .args .image .now) (λ i. c .shared-slice-known .given i .fits)
 
--- an image is bytes, and a set has sixteen slots
-bytes : (c : tie.After-first-releases) → Bytes (begun c .args .image .now)
-bytes c = bytes-by-index (begun c .args .image .now) (λ i. c .before .before .shared-slice-known .given i .fits)
-
-slots : (c : tie.After-first-releases) → length (begun c .args .s .tasks) ≡ 16
-slots c = search (needs, slots-counted)
-
-array-write-instants : tie.Need-array-write-instants
-array-write-instants c = search needs
-
-first-releases-requires : tie.Need-first-releases-requires
-first-releases-requires c κs = search needs
+element-copy-out-releases : tie.Need-element-copy-out-releases
+element-copy-out-releases c = search needs
 
 index-1-all : tie.Need-index-1-all
 index-1-all c = search needs
@@ -42,26 +28,23 @@ cast-all c = search needs
 starts-requires : tie.Need-starts-requires
 starts-requires c κs =
     let at = known c in
-    let start = begun at in
-    (memory-set (start .args .s), cycle-can (bytes at) (slots at) (start .pre) (at .first-releases .ensures))
+    let given = at .before .pre in
+    (given .0, cycle-can (bytes at) (given .1))
 
 same-length : tie.Need-same-length
 same-length c = search needs
 
 returns : tie.Need-returns
-returns c =
+returns c = λ ts can.
     let run = c .before .before in
-    let at = known (run .before) in
-    let is = at .first-releases .ensures in
-    rw (← cycle-run (bytes at) (slots at) (begun at .pre) is)
-    (run .starts .ensures _ (cycle-can (bytes at) (slots at) (begun at .pre) is))
+    let is = bytes (known (run .before)) in
+    rw (← all-kept is can) (run .starts .ensures ts (cycle-can is can))
 
 pub cycle-spec : {M : Type 1} → statement M
 cycle-spec =
     tie.close
     (tie.spec
-    array-write-instants
-    first-releases-requires
+    element-copy-out-releases
     index-1-all
     index-2-all
     cast-all

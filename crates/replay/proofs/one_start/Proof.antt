@@ -13,8 +13,8 @@ starts-requires : tie.Need-starts-requires
 starts-requires c κs = let given = c .before .before .before .pre in (given .0, one-may-run _ (given .1))
 
 returns : tie.Need-returns
-returns c = λ ts fits.
-    ap (λ (r : Run). r .last) (c .before .starts .ensures ts (one-may-run _ fits) .told) ∙ one-answer ts _ _
+returns c = λ ts stands.
+    ap (λ (r : Run). r .last) (c .before .starts .ensures ts (one-may-run _ stands) .told) ∙ one-answer ts _ _ _
 
 pub one-start-spec : {M : Type 1} → statement M
 one-start-spec = tie.close (tie.spec slice-aggregate-starts starts-requires returns)

@@ -14,11 +14,11 @@ use Rattle.replay.proofs.starts.Statement.{statement}
 use Rattle.replay.proofs.starts.Tie as tie
 
 abbrev Inv-starts : tie.InvT-starts
-Inv-starts image judged kept at₀ wanted out₀ first wasted₀ place₀ made₀ at out wasted place made =
-    (ts : Set) → CanRun ts image judged kept at₀ wanted → RunAt ts image judged kept at₀ wanted out₀ first at wasted out place made
+Inv-starts image judged kept at₀ wanted out₀ front₀ wasted₀ place₀ made₀ at out front wasted place made =
+    (ts : Set) → CanRun ts image judged kept at₀ front₀ wanted → RunAt ts image judged kept at₀ front₀ wanted out₀ at front wasted out place made
 
 abbrev μ-starts : tie.MeasureT-starts
-μ-starts image judged kept at₀ wanted out₀ first wasted₀ place₀ made₀ at out wasted place made = wanted - made
+μ-starts image judged kept at₀ wanted out₀ front₀ wasted₀ place₀ made₀ at out front wasted place made = wanted - made
 
 -- where the function begins
 abbrev begin : tie.At-starts Inv-starts μ-starts → tie.Start Inv-starts μ-starts
@@ -33,18 +33,18 @@ found c = c .f .given .0 .0
 
 -- a set that the run may be of
 abbrev May : tie.Start Inv-starts μ-starts → Set → Type 0
-May c ts = let a = c .args in CanRun ts (a .image .now) (a .judged) (a .kept .now) (a .at .now) (a .wanted)
+May c ts = let a = c .args in CanRun ts (a .image .now) (a .judged) (a .kept .now) (a .at .now) (a .from) (a .wanted)
 
 -- the start is the next from that point, of every such set
 answered : (c : tie.After-f Inv-starts μ-starts) (ts : Set) → May (begin (turn c)) ts →
-    next-at ts (begin (turn c) .args .image .now) (turn c .starts .at) ≡ Starts (found c)
-answered c ts can = sym (c .before .before .next-start .ensures ts (turn c .starts .inv ts can .fits)) ∙ c .f .given .1
+    next-at ts (begin (turn c) .args .image .now) (turn c .starts .at) (turn c .starts .front) ≡ Starts (found c)
+answered c ts can = sym (c .before .before .next-start .ensures ts (turn c .starts .inv ts can .stands)) ∙ c .f .given .1
 
 -- its task has a slot
 in-slots : (c : tie.After-f Inv-starts μ-starts) → found c .task < 16
 in-slots c =
     let known = begin (turn c) .pre in
-    run-task (known .1) _ _ (turn c .starts .inv (known .0) (known .1)) (found c) (answered c (known .0) (known .1))
+    run-task (known .1) _ (turn c .starts .inv (known .0) (known .1)) (found c) (answered c (known .0) (known .1))
 
 -- the start that was found, seen from behind the entry that is put, and from where it is known whether more are wanted
 abbrev put : tie.After-struct-known Inv-starts μ-starts → tie.After-f Inv-starts μ-starts
@@ -54,14 +54,14 @@ abbrev noted : tie.After-wasted-after Inv-starts μ-starts → tie.After-struct-
 noted c = c .before .before
 
 starts-holds : tie.Need-starts-holds Inv-starts μ-starts
-starts-holds c = λ ts can. run-begins can _ _
+starts-holds c = λ ts can. run-begins can _
 
 next-start-requires : tie.Need-next-start-requires Inv-starts μ-starts
 next-start-requires c κs =
     let at = c .before in
     let known = begin at .pre in
     let r = at .starts .inv (known .0) (known .1) in
-    (known .0, r .fits, run-reads (known .1) _ _ r)
+    (known .0, r .stands, run-reads (known .1) _ r)
 
 enum-known-number : tie.Need-enum-known-number Inv-starts μ-starts
 enum-known-number c = search needs
@@ -104,7 +104,7 @@ step-requires c κs =
     let test = c .before in
     let f = put (noted (test .before)) in
     let known = begin (turn f) .pre in
-    run-steps (known .1) _ _ (turn f .starts .inv (known .0) (known .1)) (found f) (answered f (known .0) (known .1)) (test .if1 .left)
+    run-steps (known .1) _ (turn f .starts .inv (known .0) (known .1)) (found f) (answered f (known .0) (known .1)) (test .if1 .left)
 
 starts-less : tie.Need-starts-less Inv-starts μ-starts
 starts-less c = omega (arith, c .before .before .if1 .left)
@@ -115,7 +115,7 @@ starts-again c = λ ts can.
     let f = put (noted (test .before)) in
     let r = turn f .starts .inv ts can in
     let e = answered f ts can in
-    run-on can _ _ r (found f) e (test .if1 .left) (c .step .ensures) (test .before .wasted-after .ensures)
+    run-on can _ r (found f) e (test .if1 .left) (c .step .ensures .0) (c .step .ensures .1) (test .before .wasted-after .ensures)
     (noted (test .before) .before .before .before .put-start .ensures)
 
 same-length : tie.Need-same-length Inv-starts μ-starts
@@ -129,8 +129,8 @@ returns c = λ ts can.
     let call = c .before .before .before .before in
     let at = call .before .before in
     rw (c .ran .ensures)
-    (run-stuck can _ _ (at .starts .inv ts can) _
-    (sym (call .next-start .ensures ts (at .starts .inv ts can .fits)) ∙ c .before .before .number .given .1))
+    (run-stuck can _ (at .starts .inv ts can) _
+    (sym (call .next-start .ensures ts (at .starts .inv ts can .stands)) ∙ c .before .before .number .given .1))
 
 same-length-2 : tie.Need-same-length-2 Inv-starts μ-starts
 same-length-2 c =
@@ -144,7 +144,7 @@ returns-2 c = λ ts can.
     let test = c .before in
     let f = put (noted (test .before)) in
     rw (c .ran2 .ensures, test .before .wasted-after .ensures)
-    (run-ends can _ _ (turn f .starts .inv ts can) (found f) (answered f ts can) (noted (test .before) .before .before .before .put-start .ensures)
+    (run-ends can _ (turn f .starts .inv ts can) (found f) (answered f ts can) (noted (test .before) .before .before .before .put-start .ensures)
     (test .if1 .taken))
 
 pub starts-spec : {M : Type 1} → statement M

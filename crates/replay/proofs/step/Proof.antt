@@ -1,9 +1,9 @@
 -- `replay::step` meets its contract: numbers stored in the rows, slot by slot. Assumes nothing.
+use mathlib.Core.Path.{refl}
 use Prim.Native.Nat.{_+_}
-use native.Mathlib.Omega.{arith}
 use lib.ListN.{getD}
 use borrow.Author.Needs.{needs}
-use Rattle.sets.specs.Kept.{times-in, periods-in}
+use Rattle.sets.specs.Kept.{periods-in}
 use Rattle.decision.specs.Fits.{next-in, releases-in}
 use Rattle.replay.proofs.RowStores.{all-stored}
 use Rattle.replay.proofs.step.Statement.{statement}
@@ -54,8 +54,8 @@ index-1-at c = search needs
 index-2-at : tie.Need-index-2-at
 index-2-at c = search needs
 
-add-at : tie.Need-add-at
-add-at c = search needs
+mul-at-2 : tie.Need-mul-at-2
+mul-at-2 c = search needs
 
 index-1-at-2 : tie.Need-index-1-at-2
 index-1-at-2 c = search needs
@@ -63,48 +63,37 @@ index-1-at-2 c = search needs
 index-2-at-2 : tie.Need-index-2-at-2
 index-2-at-2 c = search needs
 
+mul-at-3 : tie.Need-mul-at-3
+mul-at-3 c = search needs
+
 index-1-at-3 : tie.Need-index-1-at-3
 index-1-at-3 c = search needs
 
 index-2-at-3 : tie.Need-index-2-at-3
 index-2-at-3 c = search needs
 
-mul-at-2 : tie.Need-mul-at-2
-mul-at-2 c = search needs
+mul-t19 : tie.Need-mul-t19
+mul-t19 c = search needs
 
-index-1-at-4 : tie.Need-index-1-at-4
-index-1-at-4 c = search needs
+index-1-t22 : tie.Need-index-1-t22
+index-1-t22 c = search needs
 
-index-2-at-4 : tie.Need-index-2-at-4
-index-2-at-4 c = search needs
+index-2-t22 : tie.Need-index-2-t22
+index-2-t22 c = search needs
 
-mul-at-3 : tie.Need-mul-at-3
-mul-at-3 c = search needs
-
-index-1-at-5 : tie.Need-index-1-at-5
-index-1-at-5 c = search needs
-
-index-2-at-5 : tie.Need-index-2-at-5
-index-2-at-5 c = search needs
-
-mul-at-4 : tie.Need-mul-at-4
-mul-at-4 c = search needs
-
-index-1-at-6 : tie.Need-index-1-at-6
-index-1-at-6 c = search needs
-
-index-2-at-6 : tie.Need-index-2-at-6
-index-2-at-6 c = search needs
+add-t12 : tie.Need-add-t12
+add-t12 c = search needs
 
 returns : tie.Need-returns
 returns c =
     let start = c .before .before .before .before .before .before in
     let kept = start .args .kept .now in
     let at = start .args .at .now in
-    let f = start .args .f in
-    let slots = start .pre .slots in
-    all-stored at (slots .rows) (omega (arith, slots .instants)) (f .task) (f .start + getD (times-in kept) (f .task) 0) (f .idle)
-    (getD (next-in at) (f .task) 0 + 1) (getD (releases-in at) (f .task) 0 + getD (periods-in kept) (f .task) 0) (f .inversion)
+    let f = start .args .f in (
+      all-stored at (start .pre .slots .rows) (f .task) (getD (next-in at) (f .task) 0 + 1)
+          (getD (releases-in at) (f .task) 0 + getD (periods-in kept) (f .task) 0) (f .inversion),
+      refl,
+    )
 
 pub step-spec : {M : Type 1} → statement M
 step-spec =
@@ -125,18 +114,14 @@ step-spec =
     mul-at
     index-1-at
     index-2-at
-    add-at
+    mul-at-2
     index-1-at-2
     index-2-at-2
+    mul-at-3
     index-1-at-3
     index-2-at-3
-    mul-at-2
-    index-1-at-4
-    index-2-at-4
-    mul-at-3
-    index-1-at-5
-    index-2-at-5
-    mul-at-4
-    index-1-at-6
-    index-2-at-6
+    mul-t19
+    index-1-t22
+    index-2-t22
+    add-t12
     returns)

@@ -1,83 +1,47 @@
--- `sets::judge_numbers` meets its contract: at each of its tests the answer is the rule book's. Assumes nothing.
-use mathlib.Core.Path.{_≡_}
-use mathlib.Core.Logic.{⊎-elim}
-use mathlib.Core.Option.{none}
-use native.Mathlib.Omega.{arith}
+-- `sets::judge_numbers` meets its contract: a set with a cycle is judged by its jobs. Assumes nothing.
+use mathlib.Core.Path.{_∙_}
 use borrow.Author.Needs.{needs}
-use borrow.Author.Tests.{ltb-true, ltb-false}
-use Rattle.rules.specs.declared.TaskSet.{TaskSet}
-use Rattle.rules.specs.Tasks.{tasks-fault}
 use Rattle.numbers.specs.Numbers.{set-from}
-use Rattle.numbers.proofs.SetNumbers.{sixteen-tasks}
-use Rattle.sets.proofs.Slots.{first-tasks}
-use Rattle.sets.proofs.Faults.{told-none, told-fault}
-use Rattle.sets.proofs.Answers.{InSlots, refused-empty, refused-crowded, refused-task, refused-long, refused-many, answered-good}
+use Rattle.sets.specs.Sets.{HasCycle}
+use Rattle.sets.proofs.Answers.{by-jobs}
 use Rattle.sets.proofs.judge_numbers.Statement.{statement}
 use Rattle.sets.proofs.judge_numbers.Tie as tie
 
--- the set that the numbers are
-abbrev judged : tie.Start → TaskSet
-judged c = set-from (c .args .n) (c .args .numbers .now) (c .args .at)
+-- the cycle that was found
+found : (c : tie.After-h) →
+    let a = c .before .before .before .before .args in HasCycle (set-from (a .n) (a .numbers .now) (a .at)) (c .h .given .0 .0)
+found c = rw (c .h .given .1) at (c .before .before .judge-cycle .ensures)
 
--- what is known after the test of the number of tasks
-in-slots : (c : tie.Else2) → InSlots (judged (c .before .before .before))
-in-slots c =
-    let a = c .before .before .before .args in
-    record { some-tasks = omega arith; few-tasks = ltb-false 16 (a .n) (c .if2 .left); slots = sixteen-tasks (a .n) (a .numbers .now) (a .at) }
+judge-cycle-requires : tie.Need-judge-cycle-requires
+judge-cycle-requires c κs = search needs
 
--- what is known after the test of the tasks
-no-fault : (c : tie.Else3) → tasks-fault 1 0 (first-tasks (judged (c .before .before .before .before .before .before))) ≡ none
-no-fault c = told-none _ _ (c .before .before .tasks-fault .ensures) (c .if3 .left)
+enum-known-r : tie.Need-enum-known-r
+enum-known-r c = search needs
 
-returns : tie.Need-returns
-returns c =
-    let s = judged (c .before .before) in
-    ⊎-elim (λ w. refused-empty s (w .taken)) (λ w. refused-crowded s (w .0 .left) (ltb-true 16 (s .n) (w .1 .taken))) (c .if1 .came)
-
-tasks-fault-requires : tie.Need-tasks-fault-requires
-tasks-fault-requires c κs = search needs
-
-returns-2 : tie.Need-returns-2
-returns-2 c =
-    let at = c .before .before in
-    refused-task (in-slots (at .before)) _ (told-fault _ _ (at .tasks-fault .ensures) (c .if3 .taken))
-
-hyperperiod-requires : tie.Need-hyperperiod-requires
-hyperperiod-requires c κs =
-    let at = c .before .before .before in
-    (in-slots at .some-tasks, (in-slots at .few-tasks, (at .before .before .before .pre, no-fault c)))
-
-returns-3 : tie.Need-returns-3
-returns-3 c =
-    let at = c .before .before in
-    refused-long (in-slots (at .before .before .before)) (no-fault at) _ (c .before .hyperperiod .ensures) (c .if4 .taken)
+enum-known-h : tie.Need-enum-known-h
+enum-known-h c = search needs
 
 all-jobs-requires : tie.Need-all-jobs-requires
-all-jobs-requires c κs = search needs
+all-jobs-requires c κs =
+    let cycle = found (c .before) in (cycle .in-slots .few-tasks, (cycle .short, c .before .before .before .before .before .pre))
 
-returns-4 : tie.Need-returns-4
-returns-4 c =
-    let h = c .before .before in
-    let at = h .before .before in
-    let slots = in-slots (at .before .before .before) in
-    refused-many slots (no-fault at) _ (h .before .hyperperiod .ensures) (h .if4 .left) _ (c .before .all-jobs .ensures) (c .if5 .taken)
+limited-requires : tie.Need-limited-requires
+limited-requires c κs = search needs
 
-returns-5 : tie.Need-returns-5
-returns-5 c =
-    let h = c .before .before in
-    let at = h .before .before in
-    let slots = in-slots (at .before .before .before) in
-    answered-good slots (no-fault at) _ (h .before .hyperperiod .ensures) (h .if4 .left) _ (c .before .all-jobs .ensures) (c .if5 .left)
+returns : tie.Need-returns
+returns c = rw (c .before .r .given .1) at (c .before .before .before .judge-cycle .ensures)
+
+returns-2 : tie.Need-returns-2
+returns-2 c = c .limited .ensures ∙ by-jobs (found (c .before .before .before)) _ (c .before .all-jobs .ensures)
 
 pub judge-numbers-spec : {M : Type 1} → statement M
 judge-numbers-spec =
     tie.close
     (tie.spec
-    returns
-    tasks-fault-requires
-    returns-2
-    hyperperiod-requires
-    returns-3
+    judge-cycle-requires
+    enum-known-r
+    enum-known-h
     all-jobs-requires
-    returns-4
-    returns-5)
+    limited-requires
+    returns
+    returns-2)

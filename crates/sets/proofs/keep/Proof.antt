@@ -1,107 +1,185 @@
--- `sets::keep` meets its contract. The invariant: the rows are filled up to i. Assumes nothing.
-use mathlib.Core.Path.{_≡_, refl}
-use Prim.Native.Nat.{_-_, _≤_}
+-- `sets::keep` meets its contract. The invariant: from task i on the jobs are summed up and the rows are filled. Assumes nothing.
+use mathlib.Core.Path.{_≡_, sym, _∙_, ap}
+use mathlib.Core.Logic.{⊎-elim}
+use Prim.Native.Nat.{ℕ, _+_, _-_, _/_}
 use native.Mathlib.Omega.{arith}
 use lib.ListN.{length}
 use borrow.Author.Needs.{needs}
-use Rattle.rules.specs.declared.Task.{Task}
-use Rattle.rules.specs.Tasks.{jobs as jobs-a-cycle}
-use Rattle.rules.specs.Dispatcher.{zeros}
-use Rattle.rules.proofs.Arrays.{slots-counted}
-use Rattle.sets.specs.Kept.{slack-of}
-use Rattle.sets.proofs.Arrays.{filled-none}
-use Rattle.sets.proofs.SetKept.{ValuesTo, value-more, values-all}
+use Rattle.rules.specs.declared.TaskSet.{TaskSet}
+use Rattle.rules.specs.Tasks.{jobs}
+use Rattle.numbers.specs.Numbers.{set-from}
+use Rattle.numbers.proofs.SetNumbers.{task-in}
+use Rattle.sets.specs.Kept.{figures-in}
+use Rattle.sets.proofs.Slots.{no-slot, slot}
+use Rattle.sets.proofs.Cycles.{JobsFrom, jobs-start, jobs-more}
+use Rattle.sets.proofs.Answers.{cycle-rules}
+use Rattle.sets.proofs.RowsKept.{RowsFrom, rows-start, rows-more, rows-kept, six-rows, front-written}
 use Rattle.sets.proofs.keep.Statement.{statement}
 use Rattle.sets.proofs.keep.Tie as tie
 
 abbrev Inv-loop : tie.InvT-loop
-Inv-loop f s figures many₀ slacks₀ times₀ periods₀ i₀ many slacks times periods i =
-    (i ≤ 16) × ValuesTo (jobs-a-cycle (f .hyperperiod)) (s .tasks) i many × ValuesTo slack-of (s .tasks) i slacks
-    × ValuesTo (λ (t : Task). t .time) (s .tasks) i times × ValuesTo (λ (t : Task). t .period) (s .tasks) i periods
+Inv-loop h n numbers at kept₀ i₀ all₀ after₀ many₀ kept i all after many =
+    let s = set-from n numbers at in JobsFrom h (s .tasks) n i all after many × RowsFrom kept₀ s h i kept
 
 abbrev μ-loop : tie.MeasureT-loop
-μ-loop f s figures many₀ slacks₀ times₀ periods₀ i₀ many slacks times periods i = 16 - i
+μ-loop h n numbers at kept₀ i₀ all₀ after₀ many₀ kept i all after many = i
 
-array-write-figures : tie.Need-array-write-figures Inv-loop μ-loop
-array-write-figures c = search needs
+-- where the function begins, and the set
+abbrev begin : tie.At-loop Inv-loop μ-loop → tie.Start Inv-loop μ-loop
+begin c = c .before .before
 
-array-write-figures-2 : tie.Need-array-write-figures-2 Inv-loop μ-loop
-array-write-figures-2 c = search needs
+abbrev kept-set : tie.Start Inv-loop μ-loop → TaskSet
+kept-set c = set-from (c .args .n) (c .args .numbers .now) (c .args .at)
 
-array-write-figures-3 : tie.Need-array-write-figures-3 Inv-loop μ-loop
-array-write-figures-3 c = search needs
+-- the task before, as it is read
+read : (c : tie.After-task-from Inv-loop μ-loop) →
+    let at = c .before .before in c .task-from .result ≡ slot (kept-set (begin at) .tasks) (at .loop .i - 1)
+read c =
+    let at = c .before .before in
+    let a = begin at .args in
+    c .task-from .ensures ∙ task-in (a .n) (a .numbers .now) (a .at) no-slot (at .loop .i - 1) (omega arith)
+
+-- its period and its jobs, divided for it or for the one after it
+counted : (c : tie.Joined1 Inv-loop μ-loop) →
+    let read = c .before .before in
+    (c .if1 .after ≡ read .task-from .result .period) × (c .if1 .many ≡ jobs (begin (read .before .before) .args .h) (read .task-from .result))
+counted c =
+    let at = c .before .before .before .before in
+    ⊎-elim
+    (λ w. (w .2, w .3 ∙ w .1 .ensures))
+    (λ w. (w .1 ∙ sym (w .0 .left), w .2 ∙ at .loop .inv .0 .each ∙ ap (λ (k : ℕ). begin at .args .h / k) (sym (w .0 .left))))
+    (c .if1 .came)
+
+-- so the jobs go on to the task before
+more : (c : tie.Joined1 Inv-loop μ-loop) →
+    let at = c .before .before .before .before in
+    let start = begin at in
+    JobsFrom (start .args .h) (kept-set start .tasks) (start .args .n) (at .loop .i - 1) (at .loop .all + c .if1 .many) (c .if1 .after) (c .if1 .many)
+more c =
+    let at = c .before .before .before .before in
+    jobs-more (at .loop .inv .0) (omega arith) (begin at .pre .0 .short) _ (read (c .before .before)) _ _ (counted c .0) (counted c .1)
 
 loop-holds : tie.Need-loop-holds Inv-loop μ-loop
-loop-holds c = (omega arith, filled-none zeros _ 0, filled-none zeros _ 0, filled-none zeros _ 0, filled-none zeros _ 0)
+loop-holds c =
+    let start = c .before in
+    let in-slots = start .pre .0 .in-slots in
+    (jobs-start (start .args .h) (kept-set start .tasks) (start .args .n) (omega arith) (omega arith), rows-start (start .pre .1 .1) in-slots _)
 
-mul-t : tie.Need-mul-t Inv-loop μ-loop
-mul-t c = search needs
+sub-i : tie.Need-sub-i Inv-loop μ-loop
+sub-i c = search needs
 
-element-copy-out-t : tie.Need-element-copy-out-t Inv-loop μ-loop
-element-copy-out-t c = search needs
+mul-task-from : tie.Need-mul-task-from Inv-loop μ-loop
+mul-task-from c = search needs
+
+add-task-from : tie.Need-add-task-from Inv-loop μ-loop
+add-task-from c = search needs
+
+task-from-requires : tie.Need-task-from-requires Inv-loop μ-loop
+task-from-requires c κs = search needs
 
 jobs-requires : tie.Need-jobs-requires Inv-loop μ-loop
 jobs-requires c κs = search needs
 
-mul-many : tie.Need-mul-many Inv-loop μ-loop
-mul-many c = search needs
+mul-kept : tie.Need-mul-kept Inv-loop μ-loop
+mul-kept c = search needs
 
-array-write-many : tie.Need-array-write-many Inv-loop μ-loop
-array-write-many c = search needs
+index-1-kept : tie.Need-index-1-kept Inv-loop μ-loop
+index-1-kept c = search needs
 
-slack-requires : tie.Need-slack-requires Inv-loop μ-loop
-slack-requires c κs = search needs
+index-2-kept : tie.Need-index-2-kept Inv-loop μ-loop
+index-2-kept c = search needs
 
-mul-slacks : tie.Need-mul-slacks Inv-loop μ-loop
-mul-slacks c = search needs
+sub-kept : tie.Need-sub-kept Inv-loop μ-loop
+sub-kept c =
+    let read-task = c .before .before .before in
+    let at = read-task .before .before in
+    let rule = cycle-rules (begin at .pre .0) _ (at .loop .i - 1) (omega arith) (read read-task) in
+    omega arith
 
-array-write-slacks : tie.Need-array-write-slacks Inv-loop μ-loop
-array-write-slacks c = search needs
+mul-kept-2 : tie.Need-mul-kept-2 Inv-loop μ-loop
+mul-kept-2 c = search needs
 
-mul-times : tie.Need-mul-times Inv-loop μ-loop
-mul-times c = search needs
+index-1-kept-2 : tie.Need-index-1-kept-2 Inv-loop μ-loop
+index-1-kept-2 c = search needs
 
-array-write-times : tie.Need-array-write-times Inv-loop μ-loop
-array-write-times c = search needs
+index-2-kept-2 : tie.Need-index-2-kept-2 Inv-loop μ-loop
+index-2-kept-2 c = search needs
 
-mul-periods : tie.Need-mul-periods Inv-loop μ-loop
-mul-periods c = search needs
+mul-kept-3 : tie.Need-mul-kept-3 Inv-loop μ-loop
+mul-kept-3 c = search needs
 
-array-write-periods : tie.Need-array-write-periods Inv-loop μ-loop
-array-write-periods c = search needs
+index-1-kept-3 : tie.Need-index-1-kept-3 Inv-loop μ-loop
+index-1-kept-3 c = search needs
 
-add-i : tie.Need-add-i Inv-loop μ-loop
-add-i c = search needs
+index-2-kept-3 : tie.Need-index-2-kept-3 Inv-loop μ-loop
+index-2-kept-3 c = search needs
+
+mul-kept-4 : tie.Need-mul-kept-4 Inv-loop μ-loop
+mul-kept-4 c = search needs
+
+index-1-kept-4 : tie.Need-index-1-kept-4 Inv-loop μ-loop
+index-1-kept-4 c = search needs
+
+index-2-kept-4 : tie.Need-index-2-kept-4 Inv-loop μ-loop
+index-2-kept-4 c = search needs
+
+mul-kept-5 : tie.Need-mul-kept-5 Inv-loop μ-loop
+mul-kept-5 c = search needs
+
+index-1-kept-5 : tie.Need-index-1-kept-5 Inv-loop μ-loop
+index-1-kept-5 c = search needs
+
+index-2-kept-5 : tie.Need-index-2-kept-5 Inv-loop μ-loop
+index-2-kept-5 c = search needs
+
+add-all : tie.Need-add-all Inv-loop μ-loop
+add-all c = omega (arith, more (c .before .before) .leaves-room)
 
 loop-less : tie.Need-loop-less Inv-loop μ-loop
 loop-less c = search needs
 
 loop-again : tie.Need-loop-again Inv-loop μ-loop
 loop-again c =
-    let counted = c .before in
-    let at = counted .before .before .before in
-    let tasks = at .before .args .t1 .tasks in
-    let slots : length tasks ≡ 16 = search (needs, slots-counted) in
-    let inv = at .loop .inv in (
-      omega arith,
-      rw (counted .jobs .ensures) (value-more _ tasks (inv .1) slots (omega arith) _),
-      rw (c .slack .ensures) (value-more _ tasks (inv .2) slots (omega arith) _),
-      value-more _ tasks (inv .3) slots (omega arith) _,
-      value-more _ tasks (inv .4) slots (omega arith) _,
+    let joined = c .before .before in
+    let read-task = joined .before .before in
+    let at = read-task .before .before in
+    let pre = begin at .pre in
+    let rows = at .loop .inv .1 in (
+      more joined,
+      rw (six-rows (at .loop .kept) (rows .rows))
+          (rows-more (pre .1 .1) (pre .0 .in-slots) _ rows (omega arith) (at .loop .inv .0 .place) _ (read read-task) _ (counted joined .1)),
     )
+
+cast-kept : tie.Need-cast-kept Inv-loop μ-loop
+cast-kept c = search needs
+
+index-1-kept-6 : tie.Need-index-1-kept-6 Inv-loop μ-loop
+index-1-kept-6 c = search needs
+
+index-2-kept-6 : tie.Need-index-2-kept-6 Inv-loop μ-loop
+index-2-kept-6 c = search needs
+
+index-1-kept-7 : tie.Need-index-1-kept-7 Inv-loop μ-loop
+index-1-kept-7 c = search needs
+
+index-2-kept-7 : tie.Need-index-2-kept-7 Inv-loop μ-loop
+index-2-kept-7 c = search needs
+
+index-1-kept-8 : tie.Need-index-1-kept-8 Inv-loop μ-loop
+index-1-kept-8 c = search needs
+
+index-2-kept-8 : tie.Need-index-2-kept-8 Inv-loop μ-loop
+index-2-kept-8 c = search needs
 
 returns : tie.Need-returns Inv-loop μ-loop
 returns c =
     let at = c .before in
-    let tasks = at .before .args .t1 .tasks in
-    let slots : length tasks ≡ 16 = search (needs, slots-counted) in
-    let inv = at .loop .inv in
-    rw (
-      values-all _ tasks (inv .1) slots (omega arith),
-      values-all _ tasks (inv .2) slots (omega arith),
-      values-all _ tasks (inv .3) slots (omega arith),
-      values-all _ tasks (inv .4) slots (omega arith),
-    ) refl
+    let pre = begin at .pre in
+    let end : at .loop .i ≡ 0 = omega arith in
+    let rows = rw end at (at .loop .inv .1) in
+    let sum = rw end at (at .loop .inv .0 .is) in
+    let front = front-written 0 (figures-in (at .loop .kept)) (omega (arith, ap length (rows .figures), pre .1 .1 .slots 0 (omega arith))) in
+    (sum, λ good. rw (six-rows (at .loop .kept) (rows .rows), front) (rows-kept (pre .1 .1) (pre .0 .in-slots) _ rows _ sum _ good))
 
 pub keep-spec : {M : Type 1} → statement M
 keep-spec =
@@ -109,23 +187,36 @@ keep-spec =
     (tie.spec
     Inv-loop
     μ-loop
-    array-write-figures
-    array-write-figures-2
-    array-write-figures-3
     loop-holds
-    mul-t
-    element-copy-out-t
+    sub-i
+    mul-task-from
+    add-task-from
+    task-from-requires
     jobs-requires
-    mul-many
-    array-write-many
-    slack-requires
-    mul-slacks
-    array-write-slacks
-    mul-times
-    array-write-times
-    mul-periods
-    array-write-periods
-    add-i
+    mul-kept
+    index-1-kept
+    index-2-kept
+    sub-kept
+    mul-kept-2
+    index-1-kept-2
+    index-2-kept-2
+    mul-kept-3
+    index-1-kept-3
+    index-2-kept-3
+    mul-kept-4
+    index-1-kept-4
+    index-2-kept-4
+    mul-kept-5
+    index-1-kept-5
+    index-2-kept-5
+    add-all
     loop-less
     loop-again
+    cast-kept
+    index-1-kept-6
+    index-2-kept-6
+    index-1-kept-7
+    index-2-kept-7
+    index-1-kept-8
+    index-2-kept-8
     returns)

@@ -43,20 +43,17 @@ enum-known-refusal-2 c = search needs
 refused-requires-2 : tie.Need-refused-requires-2
 refused-requires-2 c κs = search needs
 
-enum-known-f : tie.Need-enum-known-f
-enum-known-f c = search needs
-
-keep-requires : tie.Need-keep-requires
-keep-requires c κs = search needs
+enum-told : tie.Need-enum-told
+enum-told c = search needs
 
 judge-records-requires : tie.Need-judge-records-requires
 judge-records-requires c κs =
+    let judged = c .before .before .before in
+    let read = judged .before .before in
     record {
-      framed = framed (c .before .before .before .before .before .before .before .before);
-      set-is = c .before .before .before .before .before .before .read-set .ensures;
-      figures = _;
-      good = sym (c .before .before .before .f .given .1) ∙ c .before .before .before .before .before .judge-set .ensures;
-      kept-is = c .before .keep .ensures;
+      framed = framed (read .before .before);
+      set-is = read .read-set .ensures;
+      keeps = judged .judge-set .ensures .keeps _ (c .before .enum-told .given .1);
     }
 
 returns : tie.Need-returns
@@ -64,8 +61,12 @@ returns c = judged-by-framing _ _ _ (c .before .before .before .before .frame .e
 
 returns-2 : tie.Need-returns-2
 returns-2 c =
-    judged-by-set _ (bytes (c .before .before .before .before .before .before .before .before .before .before)) (framed (c .before .before .before .before .before .before .before)) (c .before .before .before .before .before .read-set .ensures) _ _
-    (sym (c .before .before .refusal2 .given .1) ∙ c .before .before .before .before .judge-set .ensures) (c .refused2 .ensures)
+    let told = c .before .before in
+    let judged = told .before .before in
+    let read = judged .before .before in
+    let layout = read .before .before in
+    judged-by-set _ (bytes (layout .before .before .before)) (framed layout) (read .read-set .ensures) _ _
+    (sym (told .refusal2 .given .1) ∙ judged .judge-set .ensures .answer) (c .refused2 .ensures)
 
 returns-3 : tie.Need-returns-3
 returns-3 c = c .judge-records .ensures
@@ -82,8 +83,7 @@ judge-spec =
     judge-set-requires
     enum-known-refusal-2
     refused-requires-2
-    enum-known-f
-    keep-requires
+    enum-told
     judge-records-requires
     returns
     returns-2

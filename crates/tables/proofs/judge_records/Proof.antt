@@ -26,9 +26,11 @@ first-offsets-requires : tie.Need-first-offsets-requires
 first-offsets-requires c κs = has-offsets (bytes (c .before .before .before .before)) (c .before .before .before .before .before .pre) _ (c .before .before .before .records-fault .ensures) (c .before .if1 .left)
 
 replay-fault-requires : tie.Need-replay-fault-requires
-replay-fault-requires c κs =
-    can-compare (bytes (c .before .before .before .before .before)) (c .before .before .before .before .before .before .pre) _ (c .before .before .before .before .records-fault .ensures) (c .before .before .if1 .left) _
-    (c .first-offsets .ensures)
+replay-fault-requires c κs = (
+  _,
+  can-compare (bytes (c .before .before .before .before .before)) (c .before .before .before .before .before .before .pre) _ (c .before .before .before .before .records-fault .ensures) (c .before .before .if1 .left) _
+      (c .first-offsets .ensures),
+)
 
 refused-requires-2 : tie.Need-refused-requires-2
 refused-requires-2 c κs = search needs

@@ -8,14 +8,10 @@ judge-requires : tie.Need-judge-requires
 judge-requires c κs = search needs
 
 returns : tie.Need-returns
-returns c =
-    let told = c .before .before .before in
-    refusal-answered _ _ _ (told .judge .ensures) (c .before .if1 .taken)
+returns c = refusal-answered (c .before .before .before .judge .ensures) (c .before .if1 .taken)
 
 returns-2 : tie.Need-returns-2
-returns-2 c =
-    let told = c .before .before in
-    acceptance-answered _ _ _ (told .judge .ensures) (c .if1 .left)
+returns-2 c = acceptance-answered (c .before .before .judge .ensures) (c .if1 .left)
 
 pub check-spec : {M : Type 1} → statement M
 check-spec = tie.close (tie.spec judge-requires returns returns-2)

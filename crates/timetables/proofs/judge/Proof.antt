@@ -1,24 +1,52 @@
 -- `timetables::judge` meets its contract: by framing, by the set or by the entries. Assumes nothing.
 use mathlib.Core.Path.{sym, _∙_}
-use mathlib.Core.Logic.{inl, inr, ⊎-elim}
 use native.Mathlib.Omega.{arith}
 use borrow.Author.Needs.{needs}
 use Rattle.fields.specs.Number.{Bytes}
 use Rattle.fields.proofs.Laws.{bytes-by-index}
+use Rattle.rules.specs.Tasks.{memory-set}
 use Rattle.framing.specs.Frames.{Reached, BehindTasks}
-use Rattle.timetables.proofs.ImagesJudged.{judged-by-tasks, behind-tasks, judged-by-framing, tasks-inside, judged-by-set, set-stands}
-use Rattle.timetables.proofs.ImagesJudged.{few-entries, walk-reached, judged-by-entry, judged-by-missing, judged-good}
+use Rattle.timetables.specs.Judged.{Walked}
+use Rattle.timetables.proofs.ImagesJudged.{judged-by-tasks, behind-tasks, judged-by-framing, tasks-inside, set-stands, judged-by-set}
+use Rattle.timetables.proofs.ImagesJudged.{few-entries, walk-reached, judged-told}
 use Rattle.timetables.proofs.judge.Statement.{statement}
 use Rattle.timetables.proofs.judge.Tie as tie
 
+-- where the function begins
+abbrev begin : tie.After-p → tie.Start
+begin c = c .before .before .before .before
+
 -- an image is bytes
-bytes : (c : tie.After-shared-slice-known) → Bytes (c .before .args .image .now)
-bytes c = bytes-by-index (c .before .args .image .now) (λ i. c .shared-slice-known .given i .fits)
+bytes : (c : tie.After-p) → Bytes (begin c .args .image .now)
+bytes c = bytes-by-index (begin c .args .image .now) (λ i. c .before .before .before .shared-slice-known .given i .fits)
 
 -- the place behind the tasks
-behind : (c : tie.After-p) → Reached 1 (c .before .before .before .before .args .image .now) (c .p .given .0 .0)
-    × BehindTasks (c .before .before .before .before .args .image .now) (c .p .given .0 .0)
-behind c = behind-tasks _ _ (c .before .before .frame-tasks .ensures) _ (c .p .given .1)
+behind : (c : tie.After-p) → Reached 1 (begin c .args .image .now) (c .p .given .0 .0) × BehindTasks (begin c .args .image .now) (c .p .given .0 .0)
+behind c = behind-tasks _ (c .before .before .frame-tasks .ensures) _ (c .p .given .1)
+
+-- where the set is read, seen from where it is judged, and where the tasks are framed
+abbrev read : tie.After-judge-set → tie.After-read-set
+read c = c .before .before
+
+abbrev framed : tie.After-judge-set → tie.After-p
+framed c = read c .before .before
+
+-- where a set is good, seen from the walk over its entries, and where it is judged
+abbrev good : tie.After-walk-entries → tie.After-enum-told2
+good c = c .before .before
+
+abbrev judged : tie.After-walk-entries → tie.After-judge-set
+judged c = good c .before .before
+
+-- the walk over its entries
+walked : (c : tie.After-walk-entries) →
+    Walked (memory-set (read (judged c) .read-set .result)) (begin (framed (judged c)) .args .image .now) (begin (framed (judged c)) .args .count)
+    (c .walk-entries .result)
+walked c =
+    let j = judged c in
+    let q = behind (framed j) in
+    c .walk-entries .ensures _
+    (set-stands (bytes (framed j)) (q .0) (q .1) (read j .read-set .ensures) (j .judge-set .ensures .keeps _ (good c .enum-told2 .given .1)))
 
 frame-tasks-requires : tie.Need-frame-tasks-requires
 frame-tasks-requires c κs = search needs
@@ -33,9 +61,7 @@ enum-known-p : tie.Need-enum-known-p
 enum-known-p c = search needs
 
 read-set-requires : tie.Need-read-set-requires
-read-set-requires c κs =
-    let q = behind (c .before) in
-    tasks-inside _ _ (q .0) (q .1)
+read-set-requires c κs = let q = behind (c .before) in tasks-inside (q .0) (q .1)
 
 judge-set-requires : tie.Need-judge-set-requires
 judge-set-requires c κs = search needs
@@ -44,7 +70,7 @@ enum-known-fault : tie.Need-enum-known-fault
 enum-known-fault c = search needs
 
 frame-from-requires : tie.Need-frame-from-requires
-frame-from-requires c κs = behind (c .before .before .before .before .before .before) .0
+frame-from-requires c κs = behind (framed (c .before .before .before)) .0
 
 enum-known-refusal-2 : tie.Need-enum-known-refusal-2
 enum-known-refusal-2 c = search needs
@@ -58,39 +84,27 @@ enum-told c = search needs
 refused-requires-3 : tie.Need-refused-requires-3
 refused-requires-3 c κs = search needs
 
-enum-known-f : tie.Need-enum-known-f
-enum-known-f c = search needs
+enum-told-2 : tie.Need-enum-told-2
+enum-told-2 c = search needs
 
 walk-entries-requires : tie.Need-walk-entries-requires
 walk-entries-requires c κs =
-    let judged = c .before .before .before in
-    let told = judged .before .before .before in
-    let q = behind told in
-    set-stands _ (bytes (told .before .before .before)) _ (q .0) (q .1) _ (judged .before .read-set .ensures) _
-    (sym (c .before .f .given .1) ∙ judged .judge-set .ensures)
+    let j = c .before .before .before in
+    let q = behind (framed j) in
+    (_, set-stands (bytes (framed j)) (q .0) (q .1) (read j .read-set .ensures) (j .judge-set .ensures .keeps _ (c .before .enum-told2 .given .1)))
 
-add-index : tie.Need-add-index
-add-index c =
-    let walked = c .before .before in
-    let judged = walked .before .before .before .before in
-    let told = judged .before .before .before in
-    let q = behind told in
-    let few = few-entries _ (bytes (told .before .before .before)) _ (q .0) (q .1) _ (judged .before .read-set .ensures) _ _
-    (sym (walked .before .before .f .given .1) ∙ judged .judge-set .ensures) _ (walked .walk-entries .ensures) in
-    omega (arith, few, q .1 .index)
-
-element-copy-out-rank : tie.Need-element-copy-out-rank
-element-copy-out-rank c = search needs
+past-requires : tie.Need-past-requires
+past-requires c κs =
+    let j = judged c in
+    let q = behind (framed j) in
+    let few = few-entries (bytes (framed j)) (q .0) (q .1) (read j .read-set .ensures) (walked c) in
+    record { index = omega (arith, few .0, begin (framed j) .good .0); offset = omega (arith, few .1, begin (framed j) .good .0) }
 
 frame-from-requires-2 : tie.Need-frame-from-requires-2
 frame-from-requires-2 c κs =
-    let walked = c .before .before .before .before in
-    let judged = walked .before .before .before .before in
-    let told = judged .before .before .before in
-    let q = behind told in
-    walk-reached _ (bytes (told .before .before .before)) _ (q .0) (q .1) _ (judged .before .read-set .ensures) _ _
-    (sym (walked .before .before .f .given .1) ∙ judged .judge-set .ensures) _ (walked .walk-entries .ensures)
-    _ (⊎-elim (λ v. inl (v .0 .taken, v .1)) (λ v. inr (v .0 .left, v .1)) (c .if1 .came))
+    let j = judged (c .before) in
+    let q = behind (framed j) in
+    rw (c .past .ensures) (walk-reached (bytes (framed j)) (q .0) (q .1) (read j .read-set .ensures) (walked (c .before)))
 
 enum-known-refusal-3 : tie.Need-enum-known-refusal-3
 enum-known-refusal-3 c = search needs
@@ -98,74 +112,44 @@ enum-known-refusal-3 c = search needs
 refused-requires-4 : tie.Need-refused-requires-4
 refused-requires-4 c κs = search needs
 
-enum-told-2 : tie.Need-enum-told-2
-enum-told-2 c = search needs
+enum-told-3 : tie.Need-enum-told-3
+enum-told-3 c = search needs
 
-refused-requires-5 : tie.Need-refused-requires-5
-refused-requires-5 c κs = search needs
+told-requires : tie.Need-told-requires
+told-requires c κs =
+    let w = c .before .before .before .before in
+    let j = judged w in
+    let q = behind (framed j) in
+    let few = few-entries (bytes (framed j)) (q .0) (q .1) (read j .read-set .ensures) (walked w) in
+    omega (arith, few .0, begin (framed j) .good .0)
 
 returns : tie.Need-returns
-returns c =
-    let framed = c .before .before .before in
-    let walked = framed .before .before .before .before .before .before .before in
-    let judged = walked .before .before .before .before in
-    let told = judged .before .before .before in
-    let q = behind told in
-    judged-by-entry _ (bytes (told .before .before .before)) _ (q .0) (q .1) _ (judged .before .read-set .ensures) _ _
-    (sym (walked .before .before .f .given .1) ∙ judged .judge-set .ensures) _ (walked .walk-entries .ensures) _ _
-    (framed .before .before .frame-from2 .ensures) (framed .enum-told2 .given .1) _ (c .before .if2 .taken) (c .refused5 .ensures)
-
-refused-requires-6 : tie.Need-refused-requires-6
-refused-requires-6 c κs = search needs
+returns c = judged-by-tasks _ (c .before .before .before .before .frame-tasks .ensures) _ (c .before .before .refusal .given .1) (c .refused .ensures)
 
 returns-2 : tie.Need-returns-2
-returns-2 c =
-    let good = c .before .before .before .before in
-    let framed = good .before .before in
-    let walked = framed .before .before .before .before .before .before .before in
-    let judged = walked .before .before .before .before in
-    let told = judged .before .before .before in
-    let q = behind told in
-    judged-by-missing _ (bytes (told .before .before .before)) _ (q .0) (q .1) _ (judged .before .read-set .ensures) _ _
-    (sym (walked .before .before .f .given .1) ∙ judged .judge-set .ensures) _ (walked .walk-entries .ensures) _ _
-    (framed .before .before .frame-from2 .ensures) (framed .enum-told2 .given .1) (good .if2 .left) _ (c .before .if3 .taken) (c .refused6 .ensures)
+returns-2 c = judged-by-framing _ (c .before .before .before .before .frame-from .ensures) _ (c .before .before .refusal2 .given .1) (c .refused2 .ensures)
 
 returns-3 : tie.Need-returns-3
 returns-3 c =
-    let told = c .before .before in
-    judged-by-tasks _ _ _ _ (told .before .before .frame-tasks .ensures) _ (told .refusal .given .1) (c .refused .ensures)
+    let told = c .before in
+    let f = told .before .before in
+    let j = f .before .before .before .before in
+    let q = behind (framed j) in
+    judged-by-set (bytes (framed j)) (q .0) (q .1) (read j .read-set .ensures) _
+    (sym (f .before .before .fault .given .1) ∙ j .judge-set .ensures .answer) _ _ (f .frame-from .ensures) (told .enum-told .given .1) (c .refused3 .ensures)
 
 returns-4 : tie.Need-returns-4
-returns-4 c =
-    let told = c .before .before in
-    judged-by-framing _ _ _ _ (told .before .before .frame-from .ensures) _ (told .refusal2 .given .1) (c .refused2 .ensures)
+returns-4 c = judged-by-framing _ (c .before .before .before .before .frame-from2 .ensures) _ (c .before .before .refusal3 .given .1) (c .refused4 .ensures)
 
 returns-5 : tie.Need-returns-5
 returns-5 c =
-    let framed = c .before in
-    let judged = framed .before .before .before .before .before .before in
-    let told = judged .before .before .before in
-    let q = behind told in
-    judged-by-set _ (bytes (told .before .before .before)) _ (q .0) (q .1) _ (judged .before .read-set .ensures) _ _ _
-    (sym (framed .before .before .before .before .fault .given .1) ∙ judged .judge-set .ensures) _ _ (framed .before .before .frame-from .ensures)
-    (framed .enum-told .given .1) (c .refused3 .ensures)
-
-returns-6 : tie.Need-returns-6
-returns-6 c =
-    let told = c .before .before in
-    judged-by-framing _ _ _ _ (told .before .before .frame-from2 .ensures) _ (told .refusal3 .given .1) (c .refused4 .ensures)
-
-returns-7 : tie.Need-returns-7
-returns-7 c =
-    let good = c .before .before .before .before in
-    let framed = good .before .before in
-    let walked = framed .before .before .before .before .before .before .before in
-    let judged = walked .before .before .before .before in
-    let told = judged .before .before .before in
-    let q = behind told in
-    judged-good _ (bytes (told .before .before .before)) _ (q .0) (q .1) _ (judged .before .read-set .ensures) _ _
-    (sym (walked .before .before .f .given .1) ∙ judged .judge-set .ensures) _ (walked .walk-entries .ensures) _ _
-    (framed .before .before .frame-from2 .ensures) (framed .enum-told2 .given .1) (good .if2 .left) (c .before .if3 .left)
+    let told = c .before in
+    let f = told .before .before in
+    let w = f .before .before in
+    let j = judged w in
+    let q = behind (framed j) in
+    judged-told (bytes (framed j)) (q .0) (q .1) (read j .read-set .ensures) (walked w) (j .judge-set .ensures .keeps _ (good w .enum-told2 .given .1)) _ _
+    (f .frame-from2 .ensures) (told .enum-told3 .given .1) _ (c .told .ensures)
 
 pub judge-spec : {M : Type 1} → statement M
 judge-spec =
@@ -183,20 +167,16 @@ judge-spec =
     refused-requires-2
     enum-told
     refused-requires-3
-    enum-known-f
+    enum-told-2
     walk-entries-requires
-    add-index
-    element-copy-out-rank
+    past-requires
     frame-from-requires-2
     enum-known-refusal-3
     refused-requires-4
-    enum-told-2
-    refused-requires-5
+    enum-told-3
+    told-requires
     returns
-    refused-requires-6
     returns-2
     returns-3
     returns-4
-    returns-5
-    returns-6
-    returns-7)
+    returns-5)

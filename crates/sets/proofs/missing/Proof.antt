@@ -1,13 +1,13 @@
--- `timetables::missing` meets its contract. The invariant: the scan from slot i on gives what the whole gives. Assumes nothing.
+-- `sets::missing` meets its contract. The invariant: the scan from slot i on gives what the whole gives. Assumes nothing.
 use mathlib.Core.Path.{_≡_, sym, _∙_}
 use Prim.Native.Nat.{_-_, _≤_}
 use native.Mathlib.Nat.{sub-zero}
 use native.Mathlib.Omega.{arith}
 use borrow.Author.Needs.{needs}
-use Rattle.timetables.specs.Walks.{lowest-below}
-use Rattle.timetables.proofs.StartRules.{scan-ends, scan-goes, scan-past}
-use Rattle.timetables.proofs.missing.Statement.{statement}
-use Rattle.timetables.proofs.missing.Tie as tie
+use Rattle.sets.specs.Scans.{lowest-below}
+use Rattle.sets.proofs.Scans.{scan-ends, scan-goes, scan-past}
+use Rattle.sets.proofs.missing.Statement.{statement}
+use Rattle.sets.proofs.missing.Tie as tie
 
 abbrev Inv-loop : tie.InvT-loop
 Inv-loop n h release i₀ i = (i ≤ n) × (lowest-below n 0 h release ≡ lowest-below (n - i) i h release)

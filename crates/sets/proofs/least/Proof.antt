@@ -1,13 +1,13 @@
--- `decision::least` meets its contract. The invariant: the least of the numbers passed. Assumes nothing.
+-- `sets::least` meets its contract. The invariant: the least of the numbers passed. Assumes nothing.
 use mathlib.Core.Path.{_≡_, refl}
 use mathlib.Core.Logic.{⊎-elim}
 use Prim.Native.Nat.{_-_, _≤_}
 use native.Mathlib.Omega.{arith}
 use borrow.Author.Needs.{needs}
-use Rattle.decision.specs.Waiting.{least-of}
-use Rattle.decision.proofs.Scans.{least-more}
-use Rattle.decision.proofs.least.Statement.{statement}
-use Rattle.decision.proofs.least.Tie as tie
+use Rattle.sets.specs.Scans.{least-of}
+use Rattle.sets.proofs.Scans.{least-more}
+use Rattle.sets.proofs.least.Statement.{statement}
+use Rattle.sets.proofs.least.Tie as tie
 
 abbrev Inv-loop : tie.InvT-loop
 Inv-loop n bound numbers least₀ i₀ least i = (i ≤ n) × (least ≡ least-of i bound numbers)
