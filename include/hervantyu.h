@@ -8,6 +8,9 @@
  * byte); a length is that of the memory behind its pointer; no two regions that are lent to one call overlap, so an image cannot be turned into its other
  * kind in place; and nothing else changes what was lent while the call runs. Nothing is promised to a caller that does not keep to this.
  *
+ * A length has 64 bits on every processor, also where a pointer and a size_t have 32: the proved code has 64-bit lengths, and only addresses are narrower there.
+ * Nothing but numbers of 32 and of 64 bits and pointers crosses this border. A length that a caller keeps as size_t is widened by its C compiler.
+ *
  * No function keeps anything between calls: calls may run at the same time where none writes what another one is lent, and an image, which is only read, may
  * be lent to several.
  *
@@ -32,7 +35,6 @@
 #ifndef HERVANTYU_H
 #define HERVANTYU_H
 
-#include <stddef.h>
 #include <stdint.h>
 
 #ifdef __cplusplus
@@ -50,20 +52,20 @@ uint32_t hv_judge_set(uint32_t n, const uint32_t tasks[HV_LENT(64)], uint64_t *H
                       uint32_t *HV_RESTRICT jobs);
 
 /* Checks a timetable image: accepted exactly when it is the image of a good set and a valid timetable. Gives 1 to 16. */
-uint32_t hv_check_timetable(const uint8_t *HV_RESTRICT image, size_t len, uint64_t *HV_RESTRICT place);
+uint32_t hv_check_timetable(const uint8_t *HV_RESTRICT image, uint64_t len, uint64_t *HV_RESTRICT place);
 
 /* Derives: turns a timetable image into its table image. Gives 1 to 16 as checking does, then 20. Where nothing is refused the table image fills the front of
  * out, *length is its length, and the bytes of out behind it keep their values. 11 + 18 * n + 17 * jobs bytes are always enough. */
-uint32_t hv_derive(const uint8_t *HV_RESTRICT image, size_t len, uint8_t *HV_RESTRICT out, size_t room, uint64_t *HV_RESTRICT place,
+uint32_t hv_derive(const uint8_t *HV_RESTRICT image, uint64_t len, uint8_t *HV_RESTRICT out, uint64_t room, uint64_t *HV_RESTRICT place,
                    uint64_t *HV_RESTRICT length);
 
 /* Checks a table image: accepted exactly when it is the image of a good set and of the tables that a valid timetable of it has. Gives 1 to 10, 17, 18, 19. */
-uint32_t hv_check_tables(const uint8_t *HV_RESTRICT image, size_t len, uint64_t *HV_RESTRICT place);
+uint32_t hv_check_tables(const uint8_t *HV_RESTRICT image, uint64_t len, uint64_t *HV_RESTRICT place);
 
 /* Rebuilds: turns a table image into the image of the one valid timetable that has these tables. Gives 1 to 10, 17, 18, 19 as checking tables does, then 20.
  * Where nothing is refused the timetable image fills the front of out, *length is its length, and the bytes of out behind it keep their values. It has
  * 11 + 18 * n + 7 * jobs bytes. */
-uint32_t hv_rebuild(const uint8_t *HV_RESTRICT image, size_t len, uint8_t *HV_RESTRICT out, size_t room, uint64_t *HV_RESTRICT place,
+uint32_t hv_rebuild(const uint8_t *HV_RESTRICT image, uint64_t len, uint8_t *HV_RESTRICT out, uint64_t room, uint64_t *HV_RESTRICT place,
                     uint64_t *HV_RESTRICT length);
 
 /* The state of a dispatcher: one record, kept by the drive's main loop and changed in place by every call. The stopped state has every number 0. Slots from n
@@ -91,7 +93,7 @@ _Static_assert(sizeof(struct hv_dispatcher) == HV_DISPATCHER_NUMBERS * sizeof(ui
 /* Begins: checks a table image as hv_check_tables does, and answers its first start: task, job, cycle (0), absolute time. Gives 1 to 10, 17, 18, 19 with the
  * places that checking has. What *d held before changes nothing, it need not be set. On a refusal *d is stopped and start keeps its numbers: to try a new
  * image while another one runs, begin with a second record. */
-uint32_t hv_begin(struct hv_dispatcher *HV_RESTRICT d, const uint8_t *HV_RESTRICT image, size_t len, uint64_t start[HV_LENT(4)],
+uint32_t hv_begin(struct hv_dispatcher *HV_RESTRICT d, const uint8_t *HV_RESTRICT image, uint64_t len, uint64_t start[HV_LENT(4)],
                   uint64_t *HV_RESTRICT place);
 
 /* Goes on: the running job has ended at the absolute time end; answers the next start: task, job, cycle, absolute time, which is cycle * H + the time in the
@@ -112,7 +114,7 @@ uint32_t hv_begin(struct hv_dispatcher *HV_RESTRICT d, const uint8_t *HV_RESTRIC
  * starts are, in every cycle, those of the timetable that hv_rebuild gives, in its order and each at its time, and nothing is refused before cycle
  * 4,294,967,295 is over, and then with 24: so 25 never comes.
  * Whatever else is lent, any bytes and any numbers in *d, the call answers as above; a change is found (25) only where it makes bytes or state impossible. */
-uint32_t hv_go_on(struct hv_dispatcher *HV_RESTRICT d, const uint8_t *HV_RESTRICT image, size_t len, uint64_t end, uint64_t start[HV_LENT(4)]);
+uint32_t hv_go_on(struct hv_dispatcher *HV_RESTRICT d, const uint8_t *HV_RESTRICT image, uint64_t len, uint64_t end, uint64_t start[HV_LENT(4)]);
 
 #ifdef __cplusplus
 }

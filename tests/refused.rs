@@ -1,7 +1,8 @@
 //! Runs the refused samples: `refused ROOT`, with ROOT the repository. Every line of
 //! `samples/refused/answers.txt` is asked of the archive and of the independent implementation, and
 //! both have to give it. Then every number has to have a sample, and the manual's pages have to agree
-//! with the samples and with each other (`refused/pages.rs`).
+//! with the samples and with each other (`refused/pages.rs`). `refused ROOT questions` prints the
+//! same calls as cases without an answer, in the written form of `tests/README.md`.
 
 mod archive;
 #[allow(dead_code)]
@@ -78,11 +79,17 @@ impl Case {
 }
 
 fn main() -> ExitCode {
-    let Some(root) = std::env::args().nth(1) else {
-        eprintln!("usage: refused ROOT");
-        return ExitCode::from(2);
+    let arguments: Vec<String> = std::env::args().skip(1).collect();
+    let words: Vec<&str> = arguments.iter().map(String::as_str).collect();
+    let root = match words[..] {
+        [root] => Path::new(root),
+        [root, "questions"] => return print_questions(Path::new(root)),
+        _ => {
+            eprintln!("usage: refused ROOT [questions]");
+            return ExitCode::from(2);
+        }
     };
-    match faults(Path::new(&root)) {
+    match faults(root) {
         Ok((cases, faults)) => {
             faults.iter().for_each(|fault| println!("{fault}"));
             println!("{cases} answers of samples, {} faults", faults.len());
@@ -255,6 +262,48 @@ fn tasks_of(image: &[u8]) -> (u32, Vec<[u32; 4]>) {
     let task = |i: usize| [0, 1, 2, 3].map(|field| number(5 + 18 * i + 2 + 4 * field));
     let n = u32::from(image[4]);
     (n, (0..n.min(16) as usize).map(task).collect())
+}
+
+// ---- The same calls as cases ----
+
+fn print_questions(root: &Path) -> ExitCode {
+    let questions: Result<Vec<String>, String> =
+        read_cases(root).and_then(|cases| cases.iter().map(|case| question(root, case)).collect());
+    match questions {
+        Ok(questions) => {
+            questions.iter().for_each(|question| println!("{question}"));
+            ExitCode::SUCCESS
+        }
+        Err(fault) => {
+            eprintln!("refused: {fault}");
+            ExitCode::from(2)
+        }
+    }
+}
+
+/// The call of a line of answers.txt as a case without its answer.
+fn question(root: &Path, case: &Case) -> Result<String, String> {
+    let bytes = sample(root, &case.file)?;
+    let mut image: String = bytes.iter().map(|byte| format!("{byte:02x}")).collect();
+    if image.is_empty() {
+        image.push('-');
+    }
+    Ok(match case.function.as_str() {
+        "hv_check_timetable" => format!("check1 {image}"),
+        "hv_check_tables" => format!("check2 {image}"),
+        "hv_derive" => format!("derive {} {image}", case.number_set("room")?),
+        "hv_rebuild" => format!("rebuild {} {image}", case.number_set("room")?),
+        "hv_go_on" => {
+            let state = state_of(&Independent, root, case)?;
+            let numbers: Vec<String> = state.iter().map(u32::to_string).collect();
+            format!(
+                "go {image} {} {}",
+                numbers.join(","),
+                case.number_set("end")?
+            )
+        }
+        _ => return Err(format!("no such function: {}", case.line)),
+    })
 }
 
 // ---- Whether all is there ----

@@ -84,4 +84,30 @@ if symbols BbCDdGgSs | grep .; then
     echo "the archive has this writable data" >&2
     exit 1
 fi
-echo "the manual's program and the archive's symbols are as the manual says"
+
+# The header and the proved crate have the same functions with the same kinds of parameters, and nothing but numbers of 32 and 64 bits and pointers to numbers
+# crosses the border, so that another processor's calling convention passes it as the archive for it expects (tests/border.awk).
+same_border() {
+    : >"$built/of-crate"
+    awk -f "$tests/border.awk" "$1" >"$built/of-header" && awk -f "$tests/border.awk" "$2" >"$built/of-crate" &&
+        sort -o "$built/of-header" "$built/of-header" && sort "$built/of-crate" | diff "$built/of-header" -
+}
+header=$tests/../include/hervantyu.h
+crate=$tests/../crates/hervantyu/src/lib.rt
+same_border "$header" "$crate" || { cat "$built/of-header" "$built/of-crate"; echo "the header's functions are not the crate's, or have other kinds of parameters" >&2; exit 1; }
+# That test has to refuse slips: a length of a pointer's width, a narrow number, a struct by value, a narrow result, a parameter too many, and the like in the crate.
+slip() {
+    sed "$2" "$1" >"$built/slip.${1##*.}"
+    if cmp -s "$1" "$built/slip.${1##*.}"; then echo "a slip changes nothing: $2" >&2; exit 1; fi
+    case $1 in *.h) set -- "$2" "$built/slip.h" "$crate" ;; *) set -- "$2" "$header" "$built/slip.rt" ;; esac
+    if same_border "$2" "$3" >/dev/null; then echo "a slip at the border is not refused: $1" >&2; exit 1; fi
+}
+for edit in 's/uint64_t len,/size_t len,/' 's/(uint32_t n,/(uint8_t n,/' 's/(struct hv_dispatcher \*HV_RESTRICT d/(struct hv_dispatcher d/' \
+    's/^uint32_t hv_begin/uint16_t hv_begin/' 's/uint64_t end,/uint32_t end,/' 's/uint64_t end,/uint64_t end, uint32_t more,/' 's/    uint32_t cycle;/    uint64_t cycle;/' \
+    's/const uint8_t \*HV_RESTRICT image, uint64_t len, uint64_t end/uint64_t len, const uint8_t *HV_RESTRICT image, uint64_t end/'; do
+    slip "$header" "$edit"
+done
+for edit in 's/^    n: u32,/    n: usize,/' 's/^    end: u64,/    end: u16,/' 's/^    n: u32,/    n: Refusal,/' 's/^    end: u64,//' 's/place: &mut u64) -> u32/place: \&mut u64) -> bool/'; do
+    slip "$crate" "$edit"
+done
+echo "the manual's program, the archive's symbols and what crosses its border are as the manual says"

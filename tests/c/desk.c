@@ -83,8 +83,8 @@ struct image {
 
 /* What an image of a kind is asked: to be checked, and to be turned into its other kind. */
 struct kind {
-    uint32_t (*check)(const uint8_t *restrict, size_t, uint64_t *restrict);
-    uint32_t (*turn)(const uint8_t *restrict, size_t, uint8_t *restrict, size_t, uint64_t *restrict, uint64_t *restrict);
+    uint32_t (*check)(const uint8_t *restrict, uint64_t, uint64_t *restrict);
+    uint32_t (*turn)(const uint8_t *restrict, uint64_t, uint8_t *restrict, uint64_t, uint64_t *restrict, uint64_t *restrict);
 };
 
 static const struct kind timetable_kind = {hv_check_timetable, hv_derive};
@@ -101,7 +101,7 @@ static void expect_check(const char *example, const struct kind *kind, const str
 }
 
 /* Where a refusal is expected, no result is. */
-static void expect_turn(const char *example, const struct kind *kind, const struct image *image, size_t room, uint32_t number, uint64_t place,
+static void expect_turn(const char *example, const struct kind *kind, const struct image *image, uint64_t room, uint32_t number, uint64_t place,
                         const struct image *result)
 {
     struct bytes lent, out;

@@ -49,7 +49,7 @@ struct drive {
 static uint64_t run_job(const uint64_t start[4]);
 
 /* The main loop: jobs run at the times that they are told, until something is refused. Gives back the number, upon which a drive goes to its safe state. */
-static uint32_t main_loop(struct drive *drive, const uint8_t *table_image, size_t length)
+static uint32_t main_loop(struct drive *drive, const uint8_t *table_image, uint64_t length)
 {
     uint64_t place;
     uint32_t number = hv_begin(&drive->dispatcher, table_image, length, drive->start, &place);
@@ -142,7 +142,7 @@ static void expect_starts(struct drive *drive, unsigned from, unsigned to)
 }
 
 /* Where the number has it so, the record is stopped, else it is kept; the start is kept. */
-static void expect_refused(struct drive *drive, const uint8_t *table_image, size_t length, uint64_t end, uint32_t number, int stops)
+static void expect_refused(struct drive *drive, const uint8_t *table_image, uint64_t length, uint64_t end, uint32_t number, int stops)
 {
     struct drive before = *drive;
     check(hv_go_on(&drive->dispatcher, table_image, length, end, drive->start) == number, "going on gives another number");

@@ -35,7 +35,7 @@ static void work(uint32_t declared)
 
 struct plan {
     const uint8_t *image; /* lent to every call with not a byte changed, for as long as the plan runs */
-    size_t length;
+    uint64_t length;
     struct hv_dispatcher dispatcher; /* changed by the calls and by nothing else */
     uint64_t start[4];               /* the start that was told last: task, job, cycle, absolute time */
     uint64_t zero;                   /* the drive's time at the plan's time 0 */
@@ -43,7 +43,7 @@ struct plan {
 };
 
 /* Begins an image in a plan that does not run. Gives 0, or the number of the refusal. */
-static uint32_t begin_plan(struct plan *plan, const uint8_t *image, size_t length, uint64_t *place)
+static uint32_t begin_plan(struct plan *plan, const uint8_t *image, uint64_t length, uint64_t *place)
 {
     uint32_t jobs, number = hv_begin(&plan->dispatcher, image, length, plan->start, place);
     if (number != 0)

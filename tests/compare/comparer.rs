@@ -5,6 +5,8 @@
 //! archive's own answer is told on standard error, as is the progress. Then comes how often each
 //! number was given and at how many places; it fails too where one never came, or a part of the
 //! cases was not asked. The last line is the count, with that of the cases of 4 GiB.
+//! `compare print SEED CASES` asks the archive nothing: it prints the fixed cases and so many random
+//! ones, each with the second opinion.
 
 #[path = "../archive.rs"]
 mod archive;
@@ -53,6 +55,7 @@ mod rides;
 mod sets;
 
 use asking::Asking;
+use std::io::{stdout, BufWriter, Write};
 use std::process::ExitCode;
 
 /// An implementation's answer to a case in its written form; none where it cannot be read.
@@ -62,12 +65,17 @@ const MOST_DIFFERENCES: u64 = 100;
 
 /// Compares as the arguments say.
 pub fn compare(arguments: &[String], second: Opinion) -> ExitCode {
+    if let [print, seed, count] = arguments {
+        if print == "print" {
+            return print_cases(seed.parse().ok(), count.parse().ok(), second);
+        }
+    }
     let numbers: Vec<Option<u64>> = arguments.iter().map(|word| word.parse().ok()).collect();
     let (seed, count, most) = match numbers[..] {
         [Some(seed), Some(count)] => (seed, count, MOST_DIFFERENCES),
         [Some(seed), Some(count), Some(most)] => (seed, count, most),
         _ => {
-            eprintln!("usage: compare SEED CASES [MOST]");
+            eprintln!("usage: compare SEED CASES [MOST] or compare print SEED CASES");
             return ExitCode::from(2);
         }
     };
@@ -88,6 +96,21 @@ pub fn compare(arguments: &[String], second: Opinion) -> ExitCode {
     let few = least.iter().filter(|(_, asked, least)| asked < least);
     let few = few.map(|(name, asked, least)| format!("{asked} {name}, and not {least} at least"));
     verdict(&asking, few.collect(), far)
+}
+
+/// Prints the fixed cases and so many random ones, each with the second opinion.
+fn print_cases(seed: Option<u64>, count: Option<usize>, second: Opinion) -> ExitCode {
+    let (Some(seed), Some(count)) = (seed, count) else {
+        eprintln!("usage: compare print SEED CASES");
+        return ExitCode::from(2);
+    };
+    let mut out = BufWriter::new(stdout().lock());
+    for case in edges::cases().chain(stream::Stream::new(seed).take(count)) {
+        let answer = second(&case).expect("the case can be read");
+        writeln!(out, "{case} => {answer}").expect("standard output can be written");
+    }
+    out.flush().expect("standard output can be written");
+    ExitCode::SUCCESS
 }
 
 /// Asks one part of the cases, unless the end has come, and tells how many they were.

@@ -20,7 +20,8 @@ pub fn faults(root: &Path, cases: &[Case]) -> Result<Vec<String>, String> {
     faults.extend(quoted_bytes(root, &page, true)?);
     faults.extend(numbers_of_state(&page));
     let page = text(root, "docs/INTEGRATION.md")?;
-    faults.extend(quoted_program(&page, &text(root, "tests/c/manual.c")?));
+    let programs = text(root, "tests/c/manual.c")? + &text(root, "firmware/main.c")?;
+    faults.extend(quoted_program(&page, &programs));
     faults.extend(theorems(root, &page)?);
     Ok(faults)
 }
@@ -261,17 +262,17 @@ fn numbers_of_state(page: &str) -> Vec<String> {
 
 // ---- docs/INTEGRATION.md ----
 
-/// Pieces of C that are not pieces of the program.
-fn quoted_program(page: &str, program: &str) -> Vec<String> {
+/// Pieces of C that are not pieces of the programs.
+fn quoted_program(page: &str, programs: &str) -> Vec<String> {
     let pieces = blocks(page, "```c");
     if pieces.is_empty() {
         return vec!["INTEGRATION.md has no C".to_string()];
     }
     let absent = pieces
         .iter()
-        .filter(|piece| !program.contains(&format!("{}\n", piece.join("\n"))));
+        .filter(|piece| !programs.contains(&format!("{}\n", piece.join("\n"))));
     absent
-        .map(|piece| format!("not in tests/c/manual.c: {}", piece.join("\n")))
+        .map(|piece| format!("not in tests/c/manual.c or firmware/main.c: {}", piece.join("\n")))
         .collect()
 }
 

@@ -51,24 +51,28 @@ pub const LAST_OFFSET: u32 = LARGEST;
 const NO_DELAY: u32 = LARGEST;
 
 // The byte at or before which a record must end: the end of the image, or the largest offset.
-fn readable_to(image: &[u8]) -> usize
+fn readable_to(image: &[u8]) -> u32
     ensures { λ r. ⌜ r ≡ min (length (now (image .entry))) last-offset ⌝ }
 {
     if image.len() < (LAST_OFFSET as usize) {
-        return image.len();
+        return image.len() as u32;
     }
-    LAST_OFFSET as usize
+    LAST_OFFSET
 }
 
 // Does a whole record with a mark stand at an offset?
 fn whole(image: &[u8], o: u32, k: usize) -> bool
     ensures { λ r. ⌜ r ≡ whole-at (now (image .entry)) o (mark-of k) ⌝ }
 {
-    let at = o as usize;
-    if readable_to(image) < at + size_of(k) {
+    let to = readable_to(image);
+    let size = size_of(k) as u32;
+    if to < size {
         return false;
     }
-    images::stands(image, at, k)
+    if to - size < o {
+        return false;
+    }
+    images::marked(image, o as usize, k)
 }
 
 // What the ID offset shows: nothing that may stand there, no idle record, or one.
@@ -162,13 +166,13 @@ fn tasks_readable(image: &[u8], judged: bool, kept: &[[u32; 16]; 6], offsets: &[
     if judged {
         return true;
     }
-    let n = kept[FIGURES][TASKS] as usize;
-    let mut i: usize = 0;
+    let n = kept[FIGURES][TASKS];
+    let mut i: u32 = 0;
     'tasks: loop {
         if n <= i {
             break 'tasks true;
         }
-        match inversion_shown(image, kept, offsets[i]) {
+        match inversion_shown(image, kept, offsets[i as usize]) {
             InversionShown::Unreadable => {
                 break 'tasks false;
             }
@@ -216,11 +220,11 @@ fn waiting(n: usize, release: &[u32; 16], t: u32) -> u16
     ensures { λ r. ⌜ r ≡ mask-of n (come-by (now (release .entry)) t) ⌝ }
 {
     let mut mask: u16 = 0;
-    let mut i = n;
+    let mut i = n as u32;
     while 0 < i {
         i -= 1;
         mask = mask * 2;
-        if release[i] <= t {
+        if release[i as usize] <= t {
             mask = with_released(mask, 0);
         }
     }

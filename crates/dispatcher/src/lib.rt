@@ -52,9 +52,9 @@ fn is_stopped(numbers: &[u32]) -> bool
     requires { ⌜ length (now numbers) ≡ book.number-count ⌝ }
     ensures { λ r. ⌜ r ≡ book.is-stopped (state-from (now (numbers .entry))) ⌝ }
 {
-    let mut i: usize = 0;
-    while i < NUMBERS {
-        if numbers[i] != 0 {
+    let mut i: u32 = 0;
+    while i < (NUMBERS as u32) {
+        if numbers[i as usize] != 0 {
             return false;
         }
         i += 1;
@@ -167,22 +167,23 @@ fn next_turn(
     image: &[u8],
     numbers: &mut [u32; NUMBERS],
     kept: &[[u32; 16]; 6],
-    release: &[u32; 16],
+    release: &mut [u32; 16],
     free: u32,
 ) -> StartAnswer
     requires { ⌜ CanGoOn (now numbers) (now kept) (now release) free ⌝ }
     ensures { λ r. ⌜ TurnStored (book.next-turn (now (image .entry)) (state-from (now (numbers .entry)))) r (now (numbers .exit)) ⌝ }
 {
-    if !all_started(kept, release) {
-        return start_next(image, numbers, kept, release, free);
+    let mut from = free;
+    if all_started(kept, release) {
+        if LAST_CYCLE <= numbers[CYCLE] {
+            return refused(24);
+        }
+        let n = kept[FIGURES][TASKS] as usize;
+        begin_again(numbers, n);
+        *release = kept[FIRST];
+        from = 0;
     }
-    if LAST_CYCLE <= numbers[CYCLE] {
-        return refused(24);
-    }
-    let n = kept[FIGURES][TASKS] as usize;
-    begin_again(numbers, n);
-    let first = kept[FIRST];
-    start_next(image, numbers, kept, &first, 0)
+    start_next(image, numbers, kept, release, from)
 }
 
 // Is a job of a task the last one started, with the task's next job number; released when it started, and in time?
@@ -203,18 +204,19 @@ fn measured(numbers: &[u32; NUMBERS], kept: &[[u32; 16]; 6], release: &mut [u32;
     requires { ⌜ CanMeasure (now numbers) (now kept) (now release) ⌝ }
     ensures { λ r. ⌜ Measured (now (numbers .entry)) (now (kept .entry)) r (now (release .exit)) ⌝ }
 {
-    let n = kept[FIGURES][TASKS] as usize;
-    let mut i: usize = 0;
+    let n = kept[FIGURES][TASKS];
+    let mut k: u32 = 0;
     'tasks: loop {
-        if n <= i {
+        if n <= k {
             break 'tasks true;
         }
+        let i = k as usize;
         let next = numbers[NEXT + i];
         if kept[JOBS][i] < next {
             break 'tasks false;
         }
         release[i] = kept[FIRST][i] + next * kept[PERIODS][i];
-        i += 1;
+        k += 1;
     }
 }
 
@@ -228,7 +230,7 @@ fn go_on_good(
     requires { ⌜ WithGoodSet (now numbers) (now kept) ⌝ }
     ensures { λ r. ⌜ GoneOnNumbers (now (image .entry)) (now (numbers .entry)) end r (now (numbers .exit)) ⌝ }
 {
-    let mut release = [0u32; 16];
+    let mut release = numbers::numbers_from(numbers, NEXT);
     if !measured(numbers, kept, &mut release) {
         return stop(numbers, 25, 0);
     }
@@ -252,17 +254,19 @@ fn go_on_good(
     if (t.time as u64) < end - began {
         return stop(numbers, 22, 0);
     }
-    next_turn(image, numbers, kept, &release, running.start + t.time)
+    next_turn(image, numbers, kept, &mut release, running.start + t.time)
 }
 
-// Going on with a state's numbers, in the order 23, 25 for the state, 21, 22, 24, 25 for bytes. Those are stored that change.
+// Going on with a state's numbers, in the order 23, 25 for the state, 21, 22, 24, 25 for bytes. Those are stored that change. Rows that are to be filled begin
+// as copies of one that is at hand: a drive's processor copies a few numbers in fewer instructions than a call takes that clears them.
 pub fn go_on_numbers(image: &[u8], numbers: &mut [u32; NUMBERS], end: u64) -> StartAnswer
     ensures { λ r. ⌜ GoneOnNumbers (now (image .entry)) (now (numbers .entry)) end r (now (numbers .exit)) ⌝ }
 {
     if is_stopped(numbers) {
         return refused(23);
     }
-    let mut kept = [[0u32; 16]; 6];
+    let row = numbers::numbers_from(numbers, NEXT);
+    let mut kept = [row, row, row, row, row, row];
     match sets::judge_kept(numbers[0], numbers, 1, &mut kept) {
         SetAnswer::Refused(_) => stop(numbers, 25, 0),
         SetAnswer::Good(_) => go_on_good(image, numbers, &kept, end),

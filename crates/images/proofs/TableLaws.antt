@@ -114,27 +114,19 @@ module _ (bytes : List ℕ) (at : ℕ) (m : Mark) where
   front : getD rest 0 0 ≡ getD bytes at 0
   front = rw (getD-drop at bytes 0 0, add-zero)
 
-  module _ (r : Row) (read : r ≡ code-row m) where
-    -- fewer bytes are left than the record has
-    pub stands-cut : length bytes - at < r .size → false ≡ stands-at bytes at m
-    unfolding stands-at
-    stands-cut h =
-        let short : length bytes - at < size m = rw read at h in
-        rw (lt-leb (size m) (length rest) (omega (arith, length-drop at bytes)))
+  -- fewer bytes are left than the record has
+  pub stands-cut : length bytes - at < size m → false ≡ stands-at bytes at m
+  unfolding stands-at
+  stands-cut h = rw (lt-leb (size m) (length rest) (omega (arith, length-drop at bytes)))
 
-    module _ (h : r .size ≤ length bytes - at) where
-      -- as many are left
-      not-cut : leb (size m) (length rest) ≡ true
-      not-cut = let room : size m ≤ length bytes - at = rw read at h in le-leb (size m) (length rest) (omega (arith, length-drop at bytes))
-
-      -- and the first two, as one number, decide
-      pub stands-pair : (p q : ℕ) → p ≡ getD bytes at 0 + getD bytes (at + 1) 0 * 256 → q ≡ r .first + r .second * 256 → getD bytes at 0 < 256 →
-          eqb p q ≡ stands-at bytes at m
-      unfolding stands-at
-      stands-pair p q is of byte =
-          let row-pair : q ≡ row m .byte₁ + row m .byte₂ * 256 = rw read at of in
-          rw (is, row-pair, not-cut, front, getD-drop at bytes 1 0)
-          (pair-told (getD bytes at 0) (getD bytes (at + 1) 0) (row m .byte₁) (row m .byte₂) byte (mark-bytes m .0))
+  -- as many are left: the first two, as one number, decide
+  pub stands-pair : at + size m ≤ length bytes → (r : Row) → r ≡ code-row m → (p q : ℕ) → p ≡ getD bytes at 0 + getD bytes (at + 1) 0 * 256 →
+      q ≡ r .first + r .second * 256 → getD bytes at 0 < 256 → eqb p q ≡ stands-at bytes at m
+  unfolding stands-at
+  stands-pair room r read p q is of byte =
+      let row-pair : q ≡ row m .byte₁ + row m .byte₂ * 256 = rw read at of in
+      rw (is, row-pair, le-leb (size m) (length rest) (omega (arith, length-drop at bytes)), front, getD-drop at bytes 1 0)
+      (pair-told (getD bytes at 0) (getD bytes (at + 1) 0) (row m .byte₁) (row m .byte₂) byte (mark-bytes m .0))
 
   -- a whole record ends inside the image
   pub stands-whole : stands-at bytes at m ≡ true → at + size m ≤ length bytes

@@ -208,16 +208,24 @@ fn pair(a: u8, b: u8) -> u32
     (a as u32) + (b as u32) * 256
 }
 
+// Does a record with a mark stand at a place from which on there are bytes enough for one?
+pub fn marked(image: &[u8], at: usize, k: usize) -> bool
+    requires { ⌜ at + book-marks.size (mark-of k) ≤ length (now image) ⌝ }
+    ensures { λ r. ⌜ r ≡ stands-at (now (image .entry)) at (mark-of k) ⌝ }
+{
+    let row = row_of(k);
+    pair(image[at], image[at + 1]) == pair(row.first, row.second)
+}
+
 // Does a whole record with a mark stand at a place?
 pub fn stands(image: &[u8], at: usize, k: usize) -> bool
     requires { ⌜ at ≤ length (now image) ⌝ }
     ensures { λ r. ⌜ r ≡ stands-at (now (image .entry)) at (mark-of k) ⌝ }
 {
-    let row = row_of(k);
-    if image.len() - at < row.size {
+    if image.len() - at < size_of(k) {
         return false;
     }
-    pair(image[at], image[at + 1]) == pair(row.first, row.second)
+    marked(image, at, k)
 }
 
 // The part of the image that begins at a place and has a length.

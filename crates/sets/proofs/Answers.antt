@@ -1,8 +1,8 @@
 -- Judging a set in memory: the answer at each of its tests, in their order. Assumes nothing.
-use mathlib.Core.Path.{_≡_, sym, _∙_}
+use mathlib.Core.Path.{_≡_, refl, sym, _∙_}
 use mathlib.Core.Bool.{true}
 use mathlib.Core.Option.{none, some}
-use Prim.Native.Nat.{ℕ, _≤_, _<_}
+use Prim.Native.Nat.{ℕ, suc, _≤_, _<_}
 use native.Mathlib.Omega.{arith}
 use borrow.Author.Tests.{le-leb, lt-leb}
 use lib.Dec.{leb}
@@ -14,13 +14,12 @@ use Rattle.rules.specs.declared.Refusal.{Refusal}
 use Rattle.rules.specs.declared.SetAnswer.the-variants.{Refused}
 use Rattle.rules.specs.Refusals.{refusal, gives, or-else, first, unless}
 use Rattle.rules.specs.Tasks.{limits, KeepsItsRule, GoodSet, sum-of-jobs, common-multiple, memory-set, few-enough, tasks-fault, figures, set-answer, judge-set, memory-fault}
-use Rattle.rules.proofs.Cases.{by-option, both-in, clash}
+use Rattle.rules.proofs.Cases.{by-le, by-option, both-in, clash}
 use Rattle.rules.proofs.Arrays.{task-in-slot}
 use Rattle.rules.proofs.GoodSets.{set-good}
-use Rattle.sets.specs.Sets.{capped, first-tasks, InSlots, HasCycle, limited, GoodInMemory}
+use Rattle.sets.specs.Sets.{first-tasks, InSlots, HasCycle, limited, GoodInMemory}
 use Rattle.sets.proofs.Slots.{no-slot, slot}
-use Rattle.sets.proofs.Multiples.{told-within, told-long}
-use Rattle.sets.proofs.Faults.{own-rules}
+use Rattle.sets.proofs.Faults.{own-rules, periods-rise}
 
 module _ (s : TaskSet) where
   -- no task
@@ -51,19 +50,12 @@ module _ {s : TaskSet} (m : InSlots s) where
   pub refused-task : (r : Refusal) → tasks-fault 1 0 (first-tasks s) ≡ some r → Refused r ≡ judge-set s
   refused-task r e = sym (judged ∙ rw e)
 
-  module _ (no-fault : tasks-fault 1 0 (first-tasks s) ≡ none) (h : ℕ) (e : h ≡ capped (common-multiple (first-tasks s))) where
-    -- a hyperperiod above the limit
-    pub refused-long : limits .ticks < h → Refused (refusal 8 0) ≡ judge-set s
-    refused-long l = sym (judged ∙ rw (no-fault, lt-leb _ (limits .ticks) (told-long (common-multiple (first-tasks s)) (omega arith))))
-
-    -- and one up to it
-    pub has-cycle : h ≤ limits .ticks → HasCycle s h
-    has-cycle l = record {
-      in-slots = m;
-      faultless = no-fault;
-      ticks = e ∙ told-within (common-multiple (first-tasks s)) (omega arith);
-      short = l;
-    }
+  -- a hyperperiod above the limit: no task has a fault, and yet there is no cycle
+  pub refused-long : tasks-fault 1 0 (first-tasks s) ≡ none → ((h : ℕ) → HasCycle s h → ⊥) → Refused (refusal 8 0) ≡ judge-set s
+  refused-long no-fault no-cycle =
+      by-le (common-multiple (first-tasks s)) (limits .ticks)
+      (λ l. absurd (no-cycle _ (record { in-slots = m; faultless = no-fault; ticks = refl; short = l })))
+      (λ above. sym (judged ∙ rw (no-fault, lt-leb _ (limits .ticks) above)))
 
 -- a set that has a cycle is judged by its jobs
 pub by-jobs : {s : TaskSet} {h : ℕ} → HasCycle s h → (k : ℕ) → k ≡ sum-of-jobs h (first-tasks s) → limited h k ≡ judge-set s
@@ -76,6 +68,14 @@ unfolding memory-set
 cycle-rules {s} g t i l here =
     let size : length (first-tasks s) ≡ s .n = simp length-take (omega arith) in
     rw (here, ← task-in-slot s i no-slot (omega arith) l) (own-rules (first-tasks s) (g .faultless) i (omega arith))
+
+-- and no period is below the one before
+pub cycle-order : {s : TaskSet} {h : ℕ} → HasCycle s h → (i : ℕ) → suc i < s .n → slot (s .tasks) i .period ≤ slot (s .tasks) (suc i) .period
+unfolding memory-set
+cycle-order {s} g i l =
+    let size : length (first-tasks s) ≡ s .n = simp length-take (omega arith) in
+    rw (← task-in-slot s i no-slot (omega arith) (omega arith), ← task-in-slot s (suc i) no-slot (omega arith) l)
+    (periods-rise (first-tasks s) (g .faultless) i (omega arith))
 
 -- and where it is good, it is so with that cycle
 pub good-cycle : {s : TaskSet} {h : ℕ} {f : Figures} → HasCycle s h → GoodInMemory s f → GoodSet (memory-set s) h

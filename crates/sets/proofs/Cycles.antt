@@ -1,5 +1,6 @@
--- The hyperperiod and the jobs of the first n tasks, worked out from the last task to the first. Assumes nothing.
-use mathlib.Core.Path.{_≡_, sym, _∙_, ap}
+-- The cycle and the jobs of the first n tasks, worked out from the last task to the first. Assumes nothing.
+use mathlib.Core.Path.{_≡_, refl, sym, _∙_, ap}
+use mathlib.Core.Bool.{Bool, true, false, not}
 use mathlib.Core.List.{List, [], _∷_}
 use mathlib.Core.Option.{none}
 use Prim.Native.Nat.{ℕ, zero, suc, _+_, _*_, _/_, _-_, _≤_, _<_, _∣_}
@@ -7,13 +8,18 @@ use native.Mathlib.Omega.{arith}
 use native.Mathlib.Nat.{div-le-self, div-zero, dvd-refl}
 use lib.ListN.{length, take, drop, length-take}
 use lib.Seq.{drop-cons}
+use borrow.Author.Tests.{le-leb, not-true, not-false}
 use Rattle.rules.specs.declared.Task.{Task}
-use Rattle.rules.specs.Tasks.{limits, no-task, task-in, jobs, sum-of-jobs, lcm, common-multiple, tasks-fault}
+use Rattle.rules.specs.declared.TaskSet.{TaskSet}
+use Rattle.rules.specs.Tasks.{limits, no-task, task-in, jobs, sum-of-jobs, lcm, common-multiple, keeps-its-rule, tasks-fault}
+use Rattle.rules.proofs.Cases.{differ}
+use Rattle.rules.proofs.GoodSets.{task-keeps, keeps-task}
 use Rattle.rules.proofs.Hyperperiod.{Positive, lcm-left, lcm-positive, hyperperiod-positive}
-use Rattle.sets.specs.Sets.{capped}
-use Rattle.sets.proofs.Multiples.{capped-within, capped-above, told-above, told-within, lcm-above, lcm-of-multiple, lcm-of-one}
+use Rattle.sets.specs.Sets.{capped, first-tasks, InSlots, HasCycle}
+use Rattle.sets.proofs.Multiples.{told-within, told-long, lcm-above, lcm-of-multiple, lcm-of-one}
 use Rattle.sets.proofs.Slots.{slot, none-left, one-more}
 use Rattle.sets.proofs.Faults.{own-rules}
+use Rattle.sets.proofs.Answers.{cycle-rules, cycle-order}
 
 -- tasks with no fault have periods of at least 1
 positive : (ts : List Task) → tasks-fault 1 0 ts ≡ none → Positive ts
@@ -28,83 +34,100 @@ hyperperiod-rest (t ∷ ts) pos (suc i) =
     let rest = hyperperiod-rest ts tail i in
     omega (arith, lcm-above (t .period) (common-multiple ts) (pos 0 (omega arith)) (hyperperiod-positive ts tail) .1)
 
--- h is the hyperperiod of the first n tasks from place i on, and up to the limit; the period after, the last that was looked at, divides it
+-- h is the hyperperiod of the first n tasks from place i on, and up to the limit; the period after, the first of them, divides it; and they have no fault
+-- behind a period up to it
 pub record CycleFrom (slots : List Task) (n i after h : ℕ) : Type 0 where
-  pub place : i ≤ n
+  pub place : i < n
   pub room : n ≤ length slots
   pub some-ticks : 1 ≤ h
   pub short : h ≤ limits .ticks
+  pub next : after ≡ slot slots i .period
   pub divides : after ∣ h
   pub is : h ≡ common-multiple (drop i (take n slots))
+  pub ordered : (place before : ℕ) → before ≤ after → tasks-fault place before (drop i (take n slots)) ≡ none
 
--- after the last task it is 1
-none-yet : (slots : List Task) (n : ℕ) → n ≤ length slots → CycleFrom slots n n 1 1
-none-yet slots n room = record {
-  place = omega arith;
-  room = room;
-  some-ticks = omega arith;
-  short = omega arith;
-  divides = dvd-refl 1;
-  is = rw (none-left slots n n (omega arith));
-}
+-- a task that passed the test of its own rule, as it was told, has a period of at least 1
+pub tested-period : (t : Task) (kept : Bool) → kept ≡ keeps-its-rule t → not kept ≡ false → 1 ≤ t .period
+tested-period t kept is b = let r = task-keeps t (sym is ∙ not-false kept b) in omega arith
 
--- at the first task it is the hyperperiod
-pub cycle-ends : {slots : List Task} {n i after h : ℕ} → CycleFrom slots n i after h → i ≡ 0 → h ≡ capped (common-multiple (take n slots))
-cycle-ends {slots} {n} {i} {after} {h} c z =
-    let e : h ≡ common-multiple (take n slots) = rw z at (c .is) in
-    e ∙ capped-within (common-multiple (take n slots)) (omega (arith, c .short))
+-- what a set with a cycle has, at the task before a place
+module _ {s : TaskSet} {m : ℕ} (g : HasCycle s m) (i : ℕ) (p : 0 < i) (l : i ≤ s .n) (t : Task) (here : t ≡ slot (s .tasks) (i - 1)) where
+  -- it keeps its own rule
+  pub not-broken-before : (kept : Bool) → kept ≡ keeps-its-rule t → not kept ≡ true → ⊥
+  not-broken-before kept is b = differ (sym (keeps-task t (cycle-rules g t (i - 1) (omega arith) here)) ∙ sym is ∙ not-true kept b)
 
-module _ {slots : List Task} {n i after h : ℕ} (c : CycleFrom slots n i after h) (p : 0 < i) (no-fault : tasks-fault 1 0 (take n slots) ≡ none)
-    (t : Task) (here : t ≡ slot slots (i - 1)) where
-  -- the task before has a period of at least 1
-  pub period-before : 1 ≤ t .period
-  period-before =
-      let size : length (take n slots) ≡ n = simp length-take (omega arith) in
-      let a = drop-cons (take n slots) (i - 1) no-task (omega arith) in
-      let b = one-more slots n i (c .room) t p (c .place) here in
-      let e : task-in (take n slots) (i - 1) ≡ t = cc in
-      rw e at (positive (take n slots) no-fault (i - 1) (omega arith))
+  -- its period is not above that of the next
+  pub not-falling-before : (after : ℕ) → i < s .n → after ≡ slot (s .tasks) i .period → after < t .period → ⊥
+  not-falling-before after more next falls =
+      let k : suc (i - 1) ≡ i = omega arith in
+      let rise = rw (k, ← here) at (cycle-order g (i - 1) (omega arith)) in
+      omega arith
 
-  -- with its period the least common multiple is the hyperperiod from there on
-  period-more : lcm (t .period) h ≡ common-multiple (drop (i - 1) (take n slots))
-  period-more = rw (one-more slots n i (c .room) t p (c .place) here, c .is)
+  -- and the least common multiple with the hyperperiod from there on is not above the limit
+  pub not-long-before : (h : ℕ) → h ≡ common-multiple (drop i (first-tasks s)) → limits .ticks < lcm (t .period) h → ⊥
+  not-long-before h is above =
+      let room : s .n ≤ length (s .tasks) = omega (arith, g .in-slots .few-tasks, g .in-slots .slots) in
+      let more : lcm (t .period) h ≡ common-multiple (drop (i - 1) (first-tasks s)) = rw (one-more (s .tasks) (s .n) i room t p l here, is) in
+      omega (arith, hyperperiod-rest (first-tasks s) (positive (first-tasks s) (g .faultless)) (i - 1), g .ticks, g .short)
 
-  -- so h goes on to it where that is up to the limit
-  pub cycle-more : (r : ℕ) → r ≡ capped (lcm (t .period) h) → r ≤ limits .ticks → CycleFrom slots n (i - 1) (t .period) r
-  cycle-more r e l =
+-- at the last task h is its period
+module _ (slots : List Task) (n : ℕ) (p : 0 < n) (room : n ≤ length slots) (t : Task) (here : t ≡ slot slots (n - 1)) where
+  last-alone : drop (n - 1) (take n slots) ≡ t ∷ []
+  last-alone = one-more slots n n room t p (omega arith) here ∙ rw (none-left slots n n (omega arith))
+
+  pub cycle-starts : (kept : Bool) → kept ≡ keeps-its-rule t → not kept ≡ false → t .period ≤ limits .ticks → CycleFrom slots n (n - 1) (t .period) (t .period)
+  cycle-starts kept is b l = record {
+    place = omega arith;
+    room = room;
+    some-ticks = tested-period t kept is b;
+    short = l;
+    next = ap (λ (u : Task). u .period) here;
+    divides = dvd-refl (t .period);
+    is = rw last-alone (lcm-of-one (t .period) (tested-period t kept is b));
+    ordered = λ place before low. rw (last-alone, ← is, not-false kept b, le-leb before (t .period) low);
+  }
+
+-- the task before
+module _ {slots : List Task} {n i after h : ℕ} (c : CycleFrom slots n i after h) (p : 0 < i) (t : Task) (here : t ≡ slot slots (i - 1))
+    (kept : Bool) (is : kept ≡ keeps-its-rule t) (b : not kept ≡ false) where
+  -- with its period, not above the one after it, h goes on to the least common multiple where that is up to the limit
+  pub cycle-more : (r : ℕ) → r ≡ capped (lcm (t .period) h) → r ≤ limits .ticks → t .period ≤ after → CycleFrom slots n (i - 1) (t .period) r
+  cycle-more r e l low =
       let same : r ≡ lcm (t .period) h = e ∙ told-within _ (omega arith) in
+      let some = tested-period t kept is b in
+      let front = one-more slots n i (c .room) t p (omega (arith, c .place)) here in
       record {
-        place = omega arith;
+        place = omega (arith, c .place);
         room = c .room;
-        some-ticks = omega (arith, lcm-positive (t .period) h period-before (c .some-ticks));
+        some-ticks = omega (arith, lcm-positive (t .period) h some (c .some-ticks));
         short = l;
-        divides = rw same (lcm-left (t .period) h period-before);
-        is = same ∙ period-more;
+        next = ap (λ (u : Task). u .period) here;
+        divides = rw same (lcm-left (t .period) h some);
+        is = same ∙ rw (front, c .is);
+        ordered = λ place before m. rw (front, ← is, not-false kept b, le-leb before (t .period) m) (c .ordered (suc place) (t .period) low);
       }
 
   -- it stays where the period is the one after it
   pub cycle-same : t .period ≡ after → CycleFrom slots n (i - 1) after h
-  cycle-same e = rw e at (cycle-more h (lcm-of-multiple (t .period) h period-before (c .short) (rw e (c .divides))) (c .short))
+  cycle-same e =
+      rw e at (cycle-more h (lcm-of-multiple (t .period) h (tested-period t kept is b) (c .short) (rw e (c .divides))) (c .short) (omega arith))
 
-  -- and above the limit the hyperperiod of all tasks is too
-  pub cycle-long : (r : ℕ) → r ≡ capped (lcm (t .period) h) → limits .ticks < r → r ≡ capped (common-multiple (take n slots))
-  cycle-long r e l =
-      e ∙ told-above (lcm (t .period) h) (common-multiple (take n slots))
-      (omega (arith, period-more, hyperperiod-rest (take n slots) (positive (take n slots) no-fault) (i - 1))) (omega arith)
+-- the last task's period is not above the limit where the set has a cycle
+pub last-not-long : {s : TaskSet} {m : ℕ} → HasCycle s m → (t : Task) → t ≡ slot (s .tasks) (s .n - 1) → limits .ticks < t .period → ⊥
+last-not-long {s} g t here above =
+    let some = g .in-slots .some-tasks in
+    let rule = cycle-rules g t (s .n - 1) (omega arith) here in
+    let alone : t .period ≡ lcm (t .period) 1 = lcm-of-one (t .period) (omega arith) in
+    not-long-before g (s .n) (omega arith) (omega arith) t here 1 (rw (none-left (s .tasks) (s .n) (s .n) (omega arith))) (omega arith)
 
-module _ (slots : List Task) (n : ℕ) (p : 0 < n) (room : n ≤ length slots) (no-fault : tasks-fault 1 0 (take n slots) ≡ none)
-    (t : Task) (here : t ≡ slot slots (n - 1)) where
-  -- the last task's period is what it has in common with 1
-  last-period : capped (t .period) ≡ capped (lcm (t .period) 1)
-  last-period = ap (λ (k : ℕ). capped k) (lcm-of-one (t .period) (period-before (none-yet slots n room) p no-fault t here))
-
-  -- at the last task h is its period
-  pub cycle-starts : t .period ≤ limits .ticks → CycleFrom slots n (n - 1) (t .period) (t .period)
-  cycle-starts l = cycle-more (none-yet slots n room) p no-fault t here (t .period) (capped-within (t .period) l ∙ last-period) l
-
-  -- where that is above the limit the hyperperiod is too
-  pub starts-long : limits .ticks < t .period → suc (limits .ticks) ≡ capped (common-multiple (take n slots))
-  starts-long l = cycle-long (none-yet slots n room) p no-fault t here _ (capped-above (t .period) l ∙ last-period) (omega arith)
+-- at the first task it is the hyperperiod, and no task has a fault
+pub cycle-ends : {s : TaskSet} {i after h : ℕ} → InSlots s → CycleFrom (s .tasks) (s .n) i after h → i ≡ 0 → HasCycle s h
+cycle-ends {s} {i} {after} {h} m c z = record {
+  in-slots = m;
+  faultless = rw z at (c .ordered 1 0 (omega arith));
+  ticks = rw z at (c .is);
+  short = c .short;
+}
 
 -- sum is the jobs of the first n tasks from place i on, which leaves room for those of i tasks more; many are the jobs of a task with the period after
 pub record JobsFrom (h : ℕ) (slots : List Task) (n i sum after many : ℕ) : Type 0 where

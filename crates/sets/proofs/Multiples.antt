@@ -25,10 +25,6 @@ told-within h within = by-le h (limits .ticks) (λ l. sym (capped-within h l)) (
 pub told-long : (h : ℕ) → limits .ticks < capped h → limits .ticks < h
 told-long h above = by-le h (limits .ticks) (λ l. absurd (omega (arith, capped-within h l))) (λ a. a)
 
--- and one that is not below such a number is told alike
-pub told-above : (l h : ℕ) → l ≤ h → limits .ticks < capped l → capped l ≡ capped h
-told-above l h le above = let a = told-long l above in sym (capped-above l a) ∙ capped-above h (omega arith)
-
 -- the least common multiple of a number and its multiple up to the limit
 pub lcm-of-multiple : (a b : ℕ) → 0 < a → b ≤ limits .ticks → a ∣ b → b ≡ capped (lcm a b)
 lcm-of-multiple a b p l d =

@@ -7,8 +7,7 @@ use lib.ListN.{length, getD, set, drop, replicate, getD-replicate, drop-of-lengt
 use lib.Seq.{drop-cons}
 use Rattle.rules.specs.declared.Task.{Task}
 use Rattle.rules.specs.declared.TaskSet.{TaskSet}
-use Rattle.rules.specs.Tasks.{task, jobs, sum-of-jobs, GoodSet, memory-set}
-use Rattle.rules.specs.Dispatcher.{zeros}
+use Rattle.rules.specs.Tasks.{limits, task, jobs, sum-of-jobs, GoodSet, memory-set}
 use Rattle.rules.proofs.Arrays.{task-in-slot, memory-many}
 use Rattle.sets.specs.Sets.{first-tasks, InSlots}
 use Rattle.sets.specs.Kept.{Rows, figures-in, jobs-in, slack-in, times-in, periods-in, first-in, InRows, Keeps, slack-of, Filled}
@@ -31,9 +30,9 @@ six-rows kept six =
       drop-of-length-le kept {i = 6} (omega arith),
     )
 
--- six rows of sixteen zeros
-pub zero-rows : InRows (replicate 6 zeros)
-zero-rows = record { rows = refl; slots = λ row l. rw (getD-replicate 6 row zeros [] l) }
+-- six rows alike
+pub alike-rows : (r : List ℕ) → length r ≡ limits .tasks → InRows (replicate 6 r)
+alike-rows r sixteen = record { rows = refl; slots = λ row l. rw (getD-replicate 6 row r [] l) sixteen }
 
 module _ (before : Rows) (s : TaskSet) where
   -- a row whose slots of the tasks from place i on hold a value of them, and the others what they held before

@@ -46,6 +46,11 @@ pub record HasCycle (s : TaskSet) (h : ℕ) : Type 0 where
   pub ticks : h ≡ common-multiple (first-tasks s)
   pub short : h ≤ limits .ticks
 
+-- the ticks that are told of a set's cycle: its hyperperiod, 0 where it has none
+pub record TicksTold (s : TaskSet) (r : ℕ) : Type 0 where
+  pub cycle : (r ≡ 0 → ⊥) → HasCycle s r
+  pub no-cycle : r ≡ 0 → (h : ℕ) → HasCycle s h → ⊥
+
 -- what is told of a set's cycle: its hyperperiod, or the set's refusal
 abbrev pub CycleTold : TaskSet → Cycle → Type 0
 CycleTold s (cycle-case.Ticks h) = HasCycle s h

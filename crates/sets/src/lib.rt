@@ -12,7 +12,7 @@ ghost use Prim.Native.Nat.{suc, _+_, max, _≤_};
 ghost use lib.ListN.{length};
 ghost use Rattle.rules.specs.Tasks as book;
 ghost use Rattle.numbers.specs.Numbers.{tasks-from, set-from};
-ghost use Rattle.sets.specs.Sets.{capped, FirstFault, HasCycle, CycleTold, limited};
+ghost use Rattle.sets.specs.Sets.{capped, FirstFault, HasCycle, TicksTold, CycleTold, limited};
 ghost use Rattle.sets.specs.Kept.{InRows, Keeps, JudgedKept};
 ghost use Rattle.sets.specs.Scans.{lowest-below, least-of};
 
@@ -77,7 +77,10 @@ fn keeps_its_rule(t: Task) -> bool
     if t.deadline < t.time {
         return false;
     }
-    wide(t.offset) + wide(t.deadline) <= wide(t.period)
+    if t.period < t.deadline {
+        return false;
+    }
+    t.offset <= t.period - t.deadline
 }
 
 // What is wrong with the first n tasks, one after the other, each by 6 and then by 7; number 0 where nothing is.
@@ -150,28 +153,31 @@ fn common_multiple(t: u32, h: u32) -> u32
     m
 }
 
-// The hyperperiod of the first n tasks, or one more than the limit where it is above it. Periods never fall, so tasks of one period stand together: it is
-// looked at once.
-fn hyperperiod(n: usize, numbers: &[u32], at: usize) -> u32
+// The ticks of a cycle of the first n tasks; 0 where 6, 7 or 8 refuses them. From the last task to the first, in one go: periods never fall, so tasks of one
+// period stand together, and it is looked at once.
+fn ticks(n: u32, numbers: &[u32], at: usize) -> u32
     requires some { ⌜ 1 ≤ n ⌝ }
     requires few { ⌜ n ≤ 16 ⌝ }
     requires inside { ⌜ at + 64 ≤ length (now numbers) ⌝ }
-    requires faultless { ⌜ book.tasks-fault 1 0 (tasks-from n (now numbers) at) ≡ none ⌝ }
-    ensures { λ r. ⌜ r ≡ capped (book.common-multiple (tasks-from n (now (numbers .entry)) at)) ⌝ }
+    ensures { λ r. ⌜ TicksTold (set-from n (now (numbers .entry)) at) r ⌝ }
 {
     let mut i = n - 1;
-    let mut after = numbers::task_from(numbers, at + TASK_NUMBERS * i).period;
-    if 65535 < after {
-        return 65536;
+    let last = numbers::task_from(numbers, at + TASK_NUMBERS * (i as usize));
+    if 65535 < last.period || !keeps_its_rule(last) {
+        return 0;
     }
-    let mut h = after;
+    let mut after = last.period;
+    let mut h = last.period;
     while 0 < i {
         i -= 1;
-        let t = numbers::task_from(numbers, at + TASK_NUMBERS * i);
+        let t = numbers::task_from(numbers, at + TASK_NUMBERS * (i as usize));
+        if !keeps_its_rule(t) {
+            return 0;
+        }
         if t.period != after {
             h = common_multiple(t.period, h);
-            if 65535 < h {
-                return h;
+            if after < t.period || 65535 < h {
+                return 0;
             }
             after = t.period;
         }
@@ -219,19 +225,18 @@ fn judge_cycle(n: u32, numbers: &[u32], at: usize) -> Cycle
             place: 0,
         });
     }
-    let many = n as usize;
-    let fault = tasks_fault(many, numbers, at);
+    let h = ticks(n, numbers, at);
+    if h != 0 {
+        return Cycle::Ticks(h);
+    }
+    let fault = tasks_fault(n as usize, numbers, at);
     if fault.number != 0 {
         return Cycle::Refused(fault);
     }
-    let h = hyperperiod(many, numbers, at);
-    if 65535 < h {
-        return Cycle::Refused(Refusal {
-            number: 8,
-            place: 0,
-        });
-    }
-    Cycle::Ticks(h)
+    Cycle::Refused(Refusal {
+        number: 8,
+        place: 0,
+    })
 }
 
 // The answer to a set that 5 to 8 pass, by its hyperperiod and its jobs a cycle: 9 where these are above the limit.
@@ -271,12 +276,13 @@ fn keep(h: u32, n: usize, numbers: &[u32], at: usize, kept: &mut [[u32; 16]; 6])
     ensures filled { λ _. ⌜ (book.GoodSet (book.memory-set (set-from n (now (numbers .entry)) at)) h →
         Keeps (book.memory-set (set-from n (now (numbers .entry)) at)) (now (kept .exit))) ⌝ }
 {
-    let mut i = n;
+    let mut k = n as u32;
     let mut all: u32 = 0;
     let mut after: u32 = 0;
     let mut many: u32 = 0;
-    while 0 < i {
-        i -= 1;
+    while 0 < k {
+        k -= 1;
+        let i = k as usize;
         let t = numbers::task_from(numbers, at + TASK_NUMBERS * i);
         if t.period != after {
             many = jobs(h, t);
@@ -338,10 +344,11 @@ pub fn least(n: usize, bound: u32, numbers: &[u32; 16]) -> u32
     ensures { λ r. ⌜ r ≡ least-of n bound (now (numbers .entry)) ⌝ }
 {
     let mut least = bound;
-    let mut i: usize = 0;
-    while i < n {
-        if numbers[i] < least {
-            least = numbers[i];
+    let end = n as u32;
+    let mut i: u32 = 0;
+    while i < end {
+        if numbers[i as usize] < least {
+            least = numbers[i as usize];
         }
         i += 1;
     }

@@ -25,11 +25,11 @@ index-1-n c = search needs
 index-2-n : tie.Need-index-2-n Inv-tasks μ-tasks
 index-2-n c = search needs
 
-cast-n : tie.Need-cast-n Inv-tasks μ-tasks
-cast-n c = search needs
-
 tasks-holds : tie.Need-tasks-holds Inv-tasks μ-tasks
 tasks-holds c = reads-first
+
+cast-inversion-shown : tie.Need-cast-inversion-shown Inv-tasks μ-tasks
+cast-inversion-shown c = search needs
 
 mul-inversion-shown : tie.Need-mul-inversion-shown Inv-tasks μ-tasks
 mul-inversion-shown c = search needs
@@ -80,8 +80,8 @@ tasks-readable-spec =
     returns
     index-1-n
     index-2-n
-    cast-n
     tasks-holds
+    cast-inversion-shown
     mul-inversion-shown
     element-copy-out-inversion-shown
     inversion-shown-requires

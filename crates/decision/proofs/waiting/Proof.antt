@@ -16,6 +16,9 @@ Inv-loop n release t mask₀ i₀ mask i = (i ≤ n) × (mask ≡ mask-from (n -
 abbrev μ-loop : tie.MeasureT-loop
 μ-loop n release t mask₀ i₀ mask i = i
 
+cast-i : tie.Need-cast-i Inv-loop μ-loop
+cast-i c = search needs
+
 loop-holds : tie.Need-loop-holds Inv-loop μ-loop
 unfolding mask-from
 loop-holds c = (omega arith, rw (sub-self (c .args .n)))
@@ -28,6 +31,9 @@ mul-mask c =
     let at = c .before in
     let args = at .before .args in
     omega (arith, mask-small (args .n - at .loop .i) (at .loop .i) (come-by (args .release .now) (args .t)) 15 (omega arith), at .loop .inv .1)
+
+cast-if1 : tie.Need-cast-if1 Inv-loop μ-loop
+cast-if1 c = search needs
 
 mul-if1 : tie.Need-mul-if1 Inv-loop μ-loop
 mul-if1 c = search needs
@@ -77,9 +83,11 @@ waiting-spec =
     (tie.spec
     Inv-loop
     μ-loop
+    cast-i
     loop-holds
     sub-i
     mul-mask
+    cast-if1
     mul-if1
     element-copy-out-if1
     with-released-requires

@@ -14,30 +14,32 @@ readable-to-requires c κs = search needs
 size-of-requires : tie.Need-size-of-requires
 size-of-requires c κs = search needs
 
-add-if1 : tie.Need-add-if1
-add-if1 c = omega (arith, c .size-of .ensures, short-size (mark-of (c .before .before .before .args .k)))
+cast-size : tie.Need-cast-size
+cast-size c = omega (arith, c .size-of .ensures, short-size (mark-of (c .before .before .before .args .k)))
 
 returns : tie.Need-returns
 returns c =
-    let len = c .before .size-of .ensures in
-    past-readable _ _ _ (omega (arith, c .if1 .taken, len, c .before .before .readable-to .ensures))
-
-stands-requires : tie.Need-stands-requires
-stands-requires c κs = search needs
+    let told = c .before in
+    past-readable _ _ _ (omega (arith, c .if1 .taken, told .before .readable-to .ensures, told .size-of .ensures))
 
 returns-2 : tie.Need-returns-2
 returns-2 c =
+    let told = c .before .before in
+    past-readable _ _ _ (omega (arith, c .if2 .taken, c .before .if1 .left, told .before .readable-to .ensures, told .size-of .ensures))
+
+marked-requires : tie.Need-marked-requires
+marked-requires c κs =
+    let told = c .before .before in
+    omega (arith, c .if2 .left, c .before .if1 .left, told .before .readable-to .ensures, told .size-of .ensures)
+
+returns-3 : tie.Need-returns-3
+returns-3 c =
     let test = c .before in
-    let len = test .before .size-of .ensures in
-    c .stands .ensures ∙ before-last _ _ _ (omega (arith, test .if1 .left, len, test .before .before .readable-to .ensures))
+    let told = test .before .before in
+    c .marked .ensures
+    ∙ before-last _ _ _ (omega (arith, test .if2 .left, test .before .if1 .left, told .before .readable-to .ensures, told .size-of .ensures))
 
 pub whole-spec : {M : Type 1} → statement M
 whole-spec =
     tie.close
-    (tie.spec
-    readable-to-requires
-    size-of-requires
-    add-if1
-    returns
-    stands-requires
-    returns-2)
+    (tie.spec readable-to-requires size-of-requires cast-size returns returns-2 marked-requires returns-3)

@@ -20,7 +20,7 @@ use Rattle.dispatcher.proofs.go_on_good.Tie as tie
 
 -- where the function begins, and the state that going on starts from
 abbrev begin : tie.After-measured → tie.Start
-begin c = c .before .before .before .before
+begin c = c .before .before .before .before .before .before .before
 
 abbrev state : tie.After-measured → State
 state c = state-from (begin c .args .numbers .now)
@@ -59,6 +59,9 @@ free-here : (c : tie.Else3) →
 free-here c =
     let t = read (c .before) in
     omega (arith, free-by-end (begin (measured t) .pre) (possible-here c), ap (λ (u : Task). u .time) (the-task t))
+
+numbers-from-requires : tie.Need-numbers-from-requires
+numbers-from-requires c κs = search needs
 
 measured-requires : tie.Need-measured-requires
 measured-requires c κs = search needs
@@ -218,6 +221,7 @@ pub go-on-good-spec : {M : Type 1} → statement M
 go-on-good-spec =
     tie.close
     (tie.spec
+    numbers-from-requires
     measured-requires
     stop-requires
     returns

@@ -1,12 +1,12 @@
 -- `dispatcher::go_on_numbers` meets its contract: 23, or by the set. Assumes nothing.
-use mathlib.Core.Path.{_≡_, refl, sym, _∙_}
+use mathlib.Core.Path.{_≡_, refl, sym, _∙_, ap}
 use mathlib.Core.Bool.{false}
 use native.Mathlib.Omega.{arith}
 use lib.ListN.{length}
 use borrow.Author.Needs.{needs}
 use Rattle.rules.specs.Dispatcher.{number-count, is-stopped}
-use Rattle.numbers.specs.Numbers.{state-from}
-use Rattle.sets.proofs.RowsKept.{zero-rows}
+use Rattle.numbers.specs.Numbers.{slots-from, state-from}
+use Rattle.sets.proofs.RowsKept.{alike-rows}
 use Rattle.dispatcher.proofs.NextTurns.{stays-stopped, impossible-set, with-good-set}
 use Rattle.dispatcher.proofs.StoredStarts.{stored-turn, stored-as}
 use Rattle.dispatcher.proofs.go_on_numbers.Statement.{statement}
@@ -21,7 +21,7 @@ long c = search needs
 
 -- where the set is judged, of a state that is not stopped
 abbrev running : tie.After-judge-kept → tie.Else1
-running c = c .before .before .before .before .before
+running c = c .before .before .before .before .before .before .before .before
 
 not-stopped : (c : tie.After-judge-kept) → is-stopped (state-from (begin (running c .before) .args .numbers .now)) ≡ false
 not-stopped c = let test = running c in sym (test .before .is-stopped .ensures) ∙ test .if1 .left
@@ -40,11 +40,17 @@ returns c =
     (stays-stopped (start .args .image .now) (state-from (start .args .numbers .now)) (start .args .end) (sym (tested .is-stopped .ensures) ∙ c .before .if1 .taken))
     (stored-turn _ _ (c .refused .ensures) (long tested) refl)
 
+numbers-from-requires : tie.Need-numbers-from-requires
+numbers-from-requires c κs = omega (arith, long (c .before .before .before))
+
 element-copy-out-judge-kept : tie.Need-element-copy-out-judge-kept
 element-copy-out-judge-kept c = search needs
 
 judge-kept-requires : tie.Need-judge-kept-requires
-judge-kept-requires c κs = (omega (arith, long (c .before .before .before .before .before)), zero-rows)
+unfolding slots-from
+judge-kept-requires c κs =
+    let row = c .before .before .before .before in
+    (omega (arith, long (row .before .before .before .before)), alike-rows _ (ap length (row .numbers-from .ensures)))
 
 enum-told : tie.Need-enum-told
 enum-told c = search needs
@@ -84,6 +90,7 @@ go-on-numbers-spec =
     is-stopped-requires
     refused-requires
     returns
+    numbers-from-requires
     element-copy-out-judge-kept
     judge-kept-requires
     enum-told

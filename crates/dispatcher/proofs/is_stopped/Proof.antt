@@ -19,6 +19,12 @@ abbrev μ-loop : tie.MeasureT-loop
 loop-holds : tie.Need-loop-holds Inv-loop μ-loop
 loop-holds c = (omega arith, refl)
 
+cast-loop : tie.Need-cast-loop Inv-loop μ-loop
+cast-loop c = search needs
+
+cast-if1 : tie.Need-cast-if1 Inv-loop μ-loop
+cast-if1 c = search needs
+
 mul-if1 : tie.Need-mul-if1 Inv-loop μ-loop
 mul-if1 c = search needs
 
@@ -62,6 +68,8 @@ is-stopped-spec =
     Inv-loop
     μ-loop
     loop-holds
+    cast-loop
+    cast-if1
     mul-if1
     shared-slice-read-if1
     returns

@@ -1,4 +1,4 @@
--- `dispatcher::measured` meets its contract. The invariant: what was worked out of the first i tasks. Assumes nothing.
+-- `dispatcher::measured` meets its contract. The invariant: what was worked out of the first k tasks. Assumes nothing.
 use Prim.Native.Nat.{_+_, _*_, _-_, _≤_}
 use native.Mathlib.Omega.{arith}
 use lib.ListN.{getD}
@@ -12,10 +12,10 @@ use Rattle.dispatcher.proofs.measured.Statement.{statement}
 use Rattle.dispatcher.proofs.measured.Tie as tie
 
 abbrev Inv-tasks : tie.InvT-tasks
-Inv-tasks numbers kept release₀ n i₀ release i = SoFar numbers kept release₀ release i
+Inv-tasks numbers kept release₀ n k₀ release k = SoFar numbers kept release₀ release k
 
 abbrev μ-tasks : tie.MeasureT-tasks
-μ-tasks numbers kept release₀ n i₀ release i = tasks-in kept - i
+μ-tasks numbers kept release₀ n k₀ release k = tasks-in kept - k
 
 -- where the function begins, and where the turn of a task does
 abbrev begin : tie.At-tasks Inv-tasks μ-tasks → tie.Start Inv-tasks μ-tasks
@@ -27,11 +27,11 @@ turn c = c .before .before .before .before
 -- the parts of the release of a task's next job, whose number is at most its jobs
 parts : (c : tie.Else2 Inv-tasks μ-tasks) →
     let a = begin (turn c) .args in
-    let i = turn c .tasks .i in
+    let i = turn c .tasks .k in
     (number-at (a .numbers .now) (next-position + i) * getD (periods-in (a .kept .now)) i 0 ≤ 65535) × (getD (first-in (a .kept .now)) i 0 ≤ 65535)
 parts c =
     let m = begin (turn c) .pre in
-    let i = turn c .tasks .i in
+    let i = turn c .tasks .k in
     release-here m i (omega arith) (omega (arith, next-here m i (omega arith), jobs-kept (m .keeps) i (omega arith), c .if2 .left))
 
 index-1-n : tie.Need-index-1-n Inv-tasks μ-tasks
@@ -40,11 +40,11 @@ index-1-n c = search needs
 index-2-n : tie.Need-index-2-n Inv-tasks μ-tasks
 index-2-n c = search needs
 
-cast-n : tie.Need-cast-n Inv-tasks μ-tasks
-cast-n c = search needs
-
 tasks-holds : tie.Need-tasks-holds Inv-tasks μ-tasks
 tasks-holds c = none-so-far (c .before .pre)
+
+cast-i : tie.Need-cast-i Inv-tasks μ-tasks
+cast-i c = search needs
 
 add-next : tie.Need-add-next Inv-tasks μ-tasks
 add-next c = search needs
@@ -94,8 +94,8 @@ mul-release-4 c = search needs
 element-write-release : tie.Need-element-write-release Inv-tasks μ-tasks
 element-write-release c = search needs
 
-add-i : tie.Need-add-i Inv-tasks μ-tasks
-add-i c = search needs
+add-k : tie.Need-add-k Inv-tasks μ-tasks
+add-k c = search needs
 
 tasks-less : tie.Need-tasks-less Inv-tasks μ-tasks
 tasks-less c = search needs
@@ -111,7 +111,7 @@ returns c = all-so-far (begin (c .before) .pre) (c .before .tasks .inv) (c .if1 
 returns-2 : tie.Need-returns-2 Inv-tasks μ-tasks
 returns-2 c =
     let at = c .before .before .before .before in
-    too-many-here (begin at .pre) (at .tasks .i) (omega arith) (c .if2 .taken)
+    too-many-here (begin at .pre) (at .tasks .k) (omega arith) (c .if2 .taken)
 
 pub measured-spec : {M : Type 1} → statement M
 measured-spec =
@@ -121,8 +121,8 @@ measured-spec =
     μ-tasks
     index-1-n
     index-2-n
-    cast-n
     tasks-holds
+    cast-i
     add-next
     mul-next
     element-copy-out-next
@@ -139,7 +139,7 @@ measured-spec =
     add-release
     mul-release-4
     element-write-release
-    add-i
+    add-k
     tasks-less
     tasks-again
     returns

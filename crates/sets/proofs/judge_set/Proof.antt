@@ -1,12 +1,13 @@
 -- `sets::judge_set` meets its contract: its stored tasks are judged, and the set that they are is the set. Assumes nothing.
-use mathlib.Core.Path.{_≡_, _∙_, ap}
+use mathlib.Core.Path.{_≡_, refl, _∙_, ap}
 use mathlib.Core.List.{List}
 use Prim.Native.Nat.{ℕ}
 use lib.ListN.{length, replicate, length-replicate}
+use Rattle.rules.specs.Dispatcher.{zeros}
 use Rattle.rules.proofs.Arrays.{slots-counted}
 use Rattle.numbers.specs.Numbers.{set-from}
 use Rattle.numbers.proofs.SetNumbers.{set-of-stored}
-use Rattle.sets.proofs.RowsKept.{zero-rows}
+use Rattle.sets.proofs.RowsKept.{alike-rows}
 use borrow.Author.Needs.{needs}
 use Rattle.sets.proofs.judge_set.Statement.{statement}
 use Rattle.sets.proofs.judge_set.Tie as tie
@@ -21,7 +22,7 @@ slice-aggregate-judge-kept : tie.Need-slice-aggregate-judge-kept
 slice-aggregate-judge-kept c = search needs
 
 judge-kept-requires : tie.Need-judge-kept-requires
-judge-kept-requires c κs = (search needs, zero-rows)
+judge-kept-requires c κs = (search needs, alike-rows zeros refl)
 
 returns : tie.Need-returns
 returns c =

@@ -18,11 +18,11 @@ use Rattle.sets.proofs.keep.Statement.{statement}
 use Rattle.sets.proofs.keep.Tie as tie
 
 abbrev Inv-loop : tie.InvT-loop
-Inv-loop h n numbers at kept₀ i₀ all₀ after₀ many₀ kept i all after many =
-    let s = set-from n numbers at in JobsFrom h (s .tasks) n i all after many × RowsFrom kept₀ s h i kept
+Inv-loop h n numbers at kept₀ k₀ all₀ after₀ many₀ kept k all after many =
+    let s = set-from n numbers at in JobsFrom h (s .tasks) n k all after many × RowsFrom kept₀ s h k kept
 
 abbrev μ-loop : tie.MeasureT-loop
-μ-loop h n numbers at kept₀ i₀ all₀ after₀ many₀ kept i all after many = i
+μ-loop h n numbers at kept₀ k₀ all₀ after₀ many₀ kept k all after many = k
 
 -- where the function begins, and the set
 abbrev begin : tie.At-loop Inv-loop μ-loop → tie.Start Inv-loop μ-loop
@@ -33,11 +33,11 @@ kept-set c = set-from (c .args .n) (c .args .numbers .now) (c .args .at)
 
 -- the task before, as it is read
 read : (c : tie.After-task-from Inv-loop μ-loop) →
-    let at = c .before .before in c .task-from .result ≡ slot (kept-set (begin at) .tasks) (at .loop .i - 1)
+    let at = c .before .before in c .task-from .result ≡ slot (kept-set (begin at) .tasks) (at .loop .k - 1)
 read c =
     let at = c .before .before in
     let a = begin at .args in
-    c .task-from .ensures ∙ task-in (a .n) (a .numbers .now) (a .at) no-slot (at .loop .i - 1) (omega arith)
+    c .task-from .ensures ∙ task-in (a .n) (a .numbers .now) (a .at) no-slot (at .loop .k - 1) (omega arith)
 
 -- its period and its jobs, divided for it or for the one after it
 counted : (c : tie.Joined1 Inv-loop μ-loop) →
@@ -54,10 +54,13 @@ counted c =
 more : (c : tie.Joined1 Inv-loop μ-loop) →
     let at = c .before .before .before .before in
     let start = begin at in
-    JobsFrom (start .args .h) (kept-set start .tasks) (start .args .n) (at .loop .i - 1) (at .loop .all + c .if1 .many) (c .if1 .after) (c .if1 .many)
+    JobsFrom (start .args .h) (kept-set start .tasks) (start .args .n) (at .loop .k - 1) (at .loop .all + c .if1 .many) (c .if1 .after) (c .if1 .many)
 more c =
     let at = c .before .before .before .before in
     jobs-more (at .loop .inv .0) (omega arith) (begin at .pre .0 .short) _ (read (c .before .before)) _ _ (counted c .0) (counted c .1)
+
+cast-k : tie.Need-cast-k Inv-loop μ-loop
+cast-k c = search needs
 
 loop-holds : tie.Need-loop-holds Inv-loop μ-loop
 loop-holds c =
@@ -65,8 +68,11 @@ loop-holds c =
     let in-slots = start .pre .0 .in-slots in
     (jobs-start (start .args .h) (kept-set start .tasks) (start .args .n) (omega arith) (omega arith), rows-start (start .pre .1 .1) in-slots _)
 
-sub-i : tie.Need-sub-i Inv-loop μ-loop
-sub-i c = search needs
+sub-k : tie.Need-sub-k Inv-loop μ-loop
+sub-k c = search needs
+
+cast-i : tie.Need-cast-i Inv-loop μ-loop
+cast-i c = search needs
 
 mul-task-from : tie.Need-mul-task-from Inv-loop μ-loop
 mul-task-from c = search needs
@@ -93,7 +99,7 @@ sub-kept : tie.Need-sub-kept Inv-loop μ-loop
 sub-kept c =
     let read-task = c .before .before .before in
     let at = read-task .before .before in
-    let rule = cycle-rules (begin at .pre .0) _ (at .loop .i - 1) (omega arith) (read read-task) in
+    let rule = cycle-rules (begin at .pre .0) _ (at .loop .k - 1) (omega arith) (read read-task) in
     omega arith
 
 mul-kept-2 : tie.Need-mul-kept-2 Inv-loop μ-loop
@@ -175,7 +181,7 @@ returns : tie.Need-returns Inv-loop μ-loop
 returns c =
     let at = c .before in
     let pre = begin at .pre in
-    let end : at .loop .i ≡ 0 = omega arith in
+    let end : at .loop .k ≡ 0 = omega arith in
     let rows = rw end at (at .loop .inv .1) in
     let sum = rw end at (at .loop .inv .0 .is) in
     let front = front-written 0 (figures-in (at .loop .kept)) (omega (arith, ap length (rows .figures), pre .1 .1 .slots 0 (omega arith))) in
@@ -187,8 +193,10 @@ keep-spec =
     (tie.spec
     Inv-loop
     μ-loop
+    cast-k
     loop-holds
-    sub-i
+    sub-k
+    cast-i
     mul-task-from
     add-task-from
     task-from-requires

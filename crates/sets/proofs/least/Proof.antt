@@ -10,19 +10,28 @@ use Rattle.sets.proofs.least.Statement.{statement}
 use Rattle.sets.proofs.least.Tie as tie
 
 abbrev Inv-loop : tie.InvT-loop
-Inv-loop n bound numbers least₀ i₀ least i = (i ≤ n) × (least ≡ least-of i bound numbers)
+Inv-loop n bound numbers least₀ end i₀ least i = (i ≤ n) × (least ≡ least-of i bound numbers)
 
 abbrev μ-loop : tie.MeasureT-loop
-μ-loop n bound numbers least₀ i₀ least i = n - i
+μ-loop n bound numbers least₀ end i₀ least i = n - i
+
+cast-end : tie.Need-cast-end Inv-loop μ-loop
+cast-end c = search needs
 
 loop-holds : tie.Need-loop-holds Inv-loop μ-loop
 loop-holds c = (omega arith, refl)
+
+cast-if1 : tie.Need-cast-if1 Inv-loop μ-loop
+cast-if1 c = search needs
 
 mul-if1 : tie.Need-mul-if1 Inv-loop μ-loop
 mul-if1 c = search needs
 
 element-copy-out-if1 : tie.Need-element-copy-out-if1 Inv-loop μ-loop
 element-copy-out-if1 c = search needs
+
+cast-least : tie.Need-cast-least Inv-loop μ-loop
+cast-least c = search needs
 
 mul-least : tie.Need-mul-least Inv-loop μ-loop
 mul-least c = search needs
@@ -51,9 +60,12 @@ least-spec =
     (tie.spec
     Inv-loop
     μ-loop
+    cast-end
     loop-holds
+    cast-if1
     mul-if1
     element-copy-out-if1
+    cast-least
     mul-least
     element-copy-out-least
     add-i
