@@ -9,7 +9,7 @@ archive=${HV_ARCHIVE:-$root/target/cortex-m4/libhervantyu.a}
 test -f "$archive" || { echo "no archive at $archive" >&2; exit 1; }
 HV_ARCHIVE=$(readlink -f "$archive")
 export HV_ARCHIVE
-. "$root/tests/arm.sh"
+. "$root/targets/tools.sh"
 arm_tools
 built=$(mktemp -d)
 trap 'rm -rf "$built"' EXIT
@@ -109,18 +109,20 @@ awk -v room=$((${stack:-0} * 1024 - 512)) '
 echo 'FAULT 16777216' | expect 1 samples/p2.image $around -DUNALIGNED
 echo 'FAULT 524288' | expect 1 samples/p2.image $around -DFLOATING
 
-# A stack that is too short does not pass. On this board what lies below the RAM reads as 0 and the flash can be written, so that it shows in one of two ways: a
-# fault, or a processor that the emulator finds locked up.
-if timeout 60 firmware/run samples/p2.image -Wl,--defsym=stack_size=2K >"$built/written" 2>&1 </dev/null; then fail "a stack of 2 KiB is enough"; fi
-grep -q -e '^FAULT ' -e 'fatal: Lockup' "$built/written" || fail "a stack of 2 KiB is no fault"
+# A stack below what the calls took does not pass, and one a little above it does. On this board what lies below the RAM reads as 0 and the flash can be written,
+# so that it shows in one of two ways: a fault, or a processor that the emulator finds locked up.
+took=$(awk '/^stack of / && $4 > most { most = $4 } END { print most + 0 }' "$built/painted")
+if timeout 60 firmware/run samples/p2.image -Wl,--defsym=stack_size=$((took / 8 * 8 - 128)) >"$built/written" 2>&1 </dev/null; then fail "a stack of 128 bytes less than the calls took is enough"; fi
+grep -q -e '^FAULT ' -e 'fatal: Lockup' "$built/written" || fail "a stack that is too short is no fault"
+expect 0 samples/p2.image -Wl,--defsym=stack_size=$((took / 8 * 8 + 256)) <"$built/p2"
 
 # The archive asks for what firmware/memory.c has and the manual names, and the linker names each where that file is empty.
 asked=$(arm-none-eabi-nm -u "$HV_ARCHIVE" | awk 'NF == 2 { print $2 }')
 test -n "$asked" || fail "the archive asks for no memory function"
 firmware/build samples/p2.image -Wl,--no-gc-sections || fail "the whole archive cannot be linked with firmware/memory.c"
-mkdir -p "$built/copy/tests"
+mkdir -p "$built/copy/targets"
 cp -r firmware include "$built/copy/"
-cp tests/arm.sh "$built/copy/tests/"
+cp targets/tools.sh "$built/copy/targets/"
 : >"$built/copy/firmware/memory.c"
 if "$built/copy/firmware/build" samples/p2.image -Wl,--no-gc-sections 2>"$built/written"; then fail "links without memory functions"; fi
 for name in $asked; do

@@ -12,7 +12,7 @@ case $mode in gate | all) ;; slips) random=0 ;; *) echo "usage: tests/targets.sh
 tests=$(cd "$(dirname "$0")" && pwd)
 root=$(dirname "$tests")
 . "$tests/compare/build.sh"
-. "$tests/arm.sh"
+. "$root/targets/tools.sh"
 . "$root/targets/lower.sh"
 target_tools
 

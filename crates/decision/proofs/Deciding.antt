@@ -8,7 +8,7 @@ use native.Mathlib.Omega.{arith}
 use lib.ListN.{length}
 use borrow.Author.Tests.{eq-eqb, ne-eqb}
 use Rattle.rules.specs.declared.Idle.{Idle}
-use Rattle.rules.specs.Tasks.{Set, hyperperiod}
+use Rattle.rules.specs.Tasks.{Set}
 use Rattle.rules.specs.Setting.{instant}
 use Rattle.rules.specs.Priority.{setting, least-release}
 use Rattle.rules.specs.Decision.{idle-for, idle-at}

@@ -18,7 +18,7 @@ use Rattle.rules.proofs.Cases.{by-bool, by-le, both-true}
 use Rattle.rules.proofs.PriorityLaws.{due-in-cycle}
 use Rattle.rules.proofs.Inversions.{next-waits}
 use Rattle.sets.proofs.SetKept.{kept-cycle}
-use Rattle.sets.specs.Kept.{Rows, tasks-in, hyperperiod-in, Keeps}
+use Rattle.sets.specs.Kept.{Rows, tasks-in, hyperperiod-in}
 use Rattle.sets.specs.Scans.{least-of}
 use Rattle.decision.specs.Fits.{next-in, releases-in, Fits}
 use Rattle.decision.specs.Waiting.{come-by}

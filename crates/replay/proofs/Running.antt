@@ -26,7 +26,7 @@ use Rattle.rules.proofs.NextTurns.{next-keeps-rules}
 use Rattle.decision.specs.declared.Found.{Found}
 use Rattle.decision.specs.declared.NextStart.the-variants.{Starts, Stuck}
 use Rattle.sets.proofs.SetKept.{time-kept, period-kept}
-use Rattle.sets.specs.Kept.{Rows, tasks-in, hyperperiod-in, times-in, periods-in, Keeps}
+use Rattle.sets.specs.Kept.{Rows, tasks-in, hyperperiod-in, times-in, periods-in}
 use Rattle.decision.specs.declared.Front.{Front}
 use Rattle.decision.specs.Fits.{next-in, releases-in, offsets-in, Fits, Stands}
 use Rattle.decision.specs.Next.{AllRead, next-case, next-at}

@@ -11,7 +11,7 @@ use borrow.Author.Tests.{le-ltb}
 use Rattle.fields.specs.Body.{head₀, tail₀}
 use Rattle.rules.specs.declared.Task.{Task}
 use Rattle.rules.specs.declared.Entry.{Entry}
-use Rattle.rules.specs.Tasks.{Set, limits, task, release, jobs, all-jobs, hyperperiod, set-fault}
+use Rattle.rules.specs.Tasks.{Set, limits, task, jobs, all-jobs, hyperperiod, set-fault}
 use Rattle.rules.specs.Setting.{Tables}
 use Rattle.rules.specs.Priority.{slot, start-job, all-started, setting}
 use Rattle.rules.specs.Offsets.{Standing, lent, past-own, standing, next-is, next-start, first-offsets}

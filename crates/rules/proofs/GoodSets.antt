@@ -72,7 +72,7 @@ module _ (ts : Set) where
       (first-then (own-order i) (λ z. first-then (period-order i) (λ y. tasks-order (suc i) left (omega arith))))
 
   -- a task that passes keeps its rule, and its period is not below the one before
-  tasks-keep : NoneHolds (in-turn (task-tests ts) 0 (length (ts .tasks))) → (i : ℕ) → i < length (ts .tasks) → KeepsItsRule (task ts i) × (period-falls ts i → ⊥)
+  pub tasks-keep : NoneHolds (in-turn (task-tests ts) 0 (length (ts .tasks))) → (i : ℕ) → i < length (ts .tasks) → KeepsItsRule (task ts i) × (period-falls ts i → ⊥)
   tasks-keep z i l =
       let a = none-holds-at (task-tests ts) 0 (length (ts .tasks)) z i (omega arith) (omega arith) in
       (not-broken (keeps-its-rule (task ts i)) (task-keeps (task ts i)) (keeps-task (task ts i)) (a .0), a .1 .0)

@@ -1,22 +1,21 @@
 -- The cycle and the jobs of the first n tasks, worked out from the last task to the first. Assumes nothing.
-use mathlib.Core.Path.{_≡_, refl, sym, _∙_, ap}
+use mathlib.Core.Path.{_≡_, sym, _∙_, ap}
 use mathlib.Core.Bool.{Bool, true, false, not}
 use mathlib.Core.List.{List, [], _∷_}
 use mathlib.Core.Option.{none}
 use Prim.Native.Nat.{ℕ, zero, suc, _+_, _*_, _/_, _-_, _≤_, _<_, _∣_}
 use native.Mathlib.Omega.{arith}
 use native.Mathlib.Nat.{div-le-self, div-zero, dvd-refl}
-use lib.ListN.{length, take, drop, length-take}
-use lib.Seq.{drop-cons}
+use lib.ListN.{length, take, drop}
 use borrow.Author.Tests.{le-leb, not-true, not-false}
 use Rattle.rules.specs.declared.Task.{Task}
 use Rattle.rules.specs.declared.TaskSet.{TaskSet}
-use Rattle.rules.specs.Tasks.{limits, no-task, task-in, jobs, sum-of-jobs, lcm, common-multiple, keeps-its-rule, tasks-fault}
+use Rattle.rules.specs.Tasks.{limits, jobs, sum-of-jobs, lcm, common-multiple, keeps-its-rule, tasks-fault}
 use Rattle.rules.proofs.Cases.{differ}
 use Rattle.rules.proofs.GoodSets.{task-keeps, keeps-task}
 use Rattle.rules.proofs.Hyperperiod.{Positive, lcm-left, lcm-positive, hyperperiod-positive}
 use Rattle.sets.specs.Sets.{capped, first-tasks, InSlots, HasCycle}
-use Rattle.sets.proofs.Multiples.{told-within, told-long, lcm-above, lcm-of-multiple, lcm-of-one}
+use Rattle.sets.proofs.Multiples.{told-within, lcm-above, lcm-of-multiple, lcm-of-one}
 use Rattle.sets.proofs.Slots.{slot, none-left, one-more}
 use Rattle.sets.proofs.Faults.{own-rules}
 use Rattle.sets.proofs.Answers.{cycle-rules, cycle-order}

@@ -11,10 +11,10 @@ use lib.ListN.{length, take, drop}
 use Rattle.rules.specs.declared.Task.{Task}
 use Rattle.rules.specs.declared.Refusal.{Refusal}
 use Rattle.rules.specs.Refusals.{refusal}
-use Rattle.rules.specs.Tasks.{set-with, task-in, KeepsItsRule, keeps-its-rule, tasks-fault, task-tests}
+use Rattle.rules.specs.Tasks.{set-with, task-in, KeepsItsRule, keeps-its-rule, tasks-fault, period-falls}
 use Rattle.rules.proofs.Cases.{by-nat}
-use Rattle.rules.proofs.FirstTests.{NoneHolds, none-holds, none-holds-at, not-broken}
-use Rattle.rules.proofs.GoodSets.{task-keeps, keeps-task, tasks-order}
+use Rattle.rules.proofs.FirstTests.{none-holds}
+use Rattle.rules.proofs.GoodSets.{tasks-order, tasks-keep}
 use Rattle.sets.specs.Sets.{FirstFault}
 use Rattle.sets.proofs.Slots.{slot, none-left, one-off}
 
@@ -54,20 +54,17 @@ module _ {slots : List Task} {n i before : ℕ} (f : FaultsFrom slots n i before
       same = f .same ∙ rw (one-off slots n i (f .room) t l here, ← is, not-false kept b, le-leb before (t .period) rises, add-one);
     }
 
-module _ (ts : List Task) (no-fault : tasks-fault 1 0 ts ≡ none) (i : ℕ) (l : i < length ts) where
-  -- no test of a task without a fault refuses
-  none-of : NoneHolds (task-tests (set-with ts) i)
-  none-of =
-      let tested = none-holds (tasks-order (set-with ts) 0 (length ts) (omega arith)) no-fault in
-      none-holds-at (task-tests (set-with ts)) 0 (length ts) tested i (omega arith) (omega arith)
+-- of tasks without a fault each keeps its own rule
+module _ (ts : List Task) (no-fault : tasks-fault 1 0 ts ≡ none) (i : ℕ) where
+  keep-all : i < length ts → KeepsItsRule (task-in ts i) × (period-falls (set-with ts) i → ⊥)
+  keep-all l = tasks-keep (set-with ts) (none-holds (tasks-order (set-with ts) 0 (length ts) (omega arith)) no-fault) i l
 
-  -- so it keeps its own rule
-  pub own-rules : KeepsItsRule (task-in ts i)
-  own-rules = let t = task-in ts i in not-broken (keeps-its-rule t) (task-keeps t) (keeps-task t) (none-of .0)
+  pub own-rules : i < length ts → KeepsItsRule (task-in ts i)
+  own-rules l = keep-all l .0
 
--- and its period is not below the one before
+-- and no period is below the one before
 pub periods-rise : (ts : List Task) → tasks-fault 1 0 ts ≡ none → (i : ℕ) → suc i < length ts → task-in ts i .period ≤ task-in ts (suc i) .period
-periods-rise ts no-fault i l = omega (arith, none-of ts no-fault (suc i) l .1 .0)
+periods-rise ts no-fault i l = omega (arith, keep-all ts no-fault (suc i) l .1)
 
 module _ (o : Option Refusal) (r : Refusal) (f : FirstFault o r) where
   -- number 0 stands for no fault

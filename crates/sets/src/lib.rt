@@ -7,7 +7,6 @@ use rules::SetAnswer;
 use rules::Task;
 use rules::TaskSet;
 ghost use mathlib.Core.Path.{_≡_};
-ghost use mathlib.Core.Option.{none};
 ghost use Prim.Native.Nat.{suc, _+_, max, _≤_};
 ghost use lib.ListN.{length};
 ghost use Rattle.rules.specs.Tasks as book;
@@ -153,8 +152,8 @@ fn common_multiple(t: u32, h: u32) -> u32
     m
 }
 
-// The ticks of a cycle of the first n tasks; 0 where 6, 7 or 8 refuses them. From the last task to the first, in one go: periods never fall, so tasks of one
-// period stand together, and it is looked at once.
+// The ticks of a cycle of the first n tasks; 0 where 6, 7 or 8 refuses them. One walk, from the last task to the first; a period is looked at once for tasks
+// of it that stand together.
 fn ticks(n: u32, numbers: &[u32], at: usize) -> u32
     requires some { ⌜ 1 ≤ n ⌝ }
     requires few { ⌜ n ≤ 16 ⌝ }

@@ -1,11 +1,10 @@
 -- `sets::ticks` meets its contract. The invariant: h is the hyperperiod of the tasks from i on, and they have no fault. Assumes nothing.
 use mathlib.Core.Path.{_≡_, refl, _∙_}
 use mathlib.Core.Logic.{⊎-elim}
-use Prim.Native.Nat.{ℕ, _-_, _≤_}
+use Prim.Native.Nat.{ℕ, _-_}
 use native.Mathlib.Omega.{arith}
 use borrow.Author.Needs.{needs}
 use borrow.Author.Tests.{ltb-true, ltb-false}
-use lib.ListN.{length}
 use Rattle.rules.specs.declared.TaskSet.{TaskSet}
 use Rattle.numbers.specs.Numbers.{set-from}
 use Rattle.numbers.proofs.SetNumbers.{sixteen-tasks, task-in}

@@ -1,6 +1,6 @@
-# Sourced by the scripts that build programs for an Arm and run them: arm_tools and target_tools. Each word of arm_tools is COMMAND=PACKAGE, a command that is needed and Debian's package with it;
-# without words a compiler and an emulated board for a bare Cortex-M. What is missing is installed where it may be (root, Debian's packages); otherwise the
-# packages are named and the script fails.
+# Sourced by the scripts that build programs for an Arm and run them: arm_tools and target_tools. Each word of arm_tools is COMMAND=PACKAGE, a command that is
+# needed and Debian's package with it; without words a compiler and an emulated board for a bare Cortex-M. What is missing is installed where it may be (root,
+# Debian's packages); otherwise the packages are named and the script fails.
 arm_tools() {
     test $# -gt 0 || set -- arm-none-eabi-gcc=gcc-arm-none-eabi qemu-system-arm=qemu-system-arm
     arm_packages=$(arm_missing "$@")
