@@ -5,9 +5,12 @@
 # by 16 bytes each time, and the other implementation is compiled with its branches off those
 # boundaries. Each program is run twice, and the least time of each side counts: what else runs on the
 # machine only adds to a time. HV_ARCHIVE names another archive than the repository's own.
-# With `learnt` as its argument it times deriving over one image and over many in turn, linked once.
+# With `sets` as its argument it times judging 4,000 candidate sets of each kind beside two plain ways,
+# linked and run alike. With `learnt` as its argument it times deriving over one image and over many in
+# turn, linked once.
 # With `instructions` as its argument it counts those executed instead, into which neither the processor
-# nor what else it does comes: an emulator (Debian's qemu-user) runs the program and a plugin counts.
+# nor what else it does comes: an emulator (Debian's qemu-user) runs the program and a plugin counts. With
+# `instructions sets` it counts those of judging a candidate set, the mean over 400.
 set -eu
 
 tests=$(cd "$(dirname "$0")" && pwd)
@@ -17,25 +20,61 @@ test -f "$archive" || { echo "no archive at $archive" >&2; exit 1; }
 built=$(mktemp -d)
 trap 'rm -rf "$built"' EXIT
 
-# Prints how many instructions the program executes with these arguments.
+# Prints how many instructions a program executes for one call with these arguments, behind which stands
+# how many times: half the difference between one time and three.
 executed() {
-    COUNTED="$built/counted" qemu-x86_64 -plugin "$built/count.so" "$built/bench" "$@"
-    cat "$built/counted"
+    program=$1
+    shift
+    for times in 1 3; do
+        COUNTED="$built/counted" qemu-x86_64 -plugin "$built/count.so" "$built/$program" "$@" "$times"
+        cat "$built/counted"
+    done | paste -s | awk '{ printf "%d\n", ($2 - $1) / 2 }'
+}
+
+# Compiles a program of this folder with the archive.
+compile() {
+    program=$1
+    shift
+    compile_rust --edition 2021 -O -D warnings -C codegen-units=1 "$@" -C link-arg="$archive" -o "$built/$program" "$tests/$program.rs"
+}
+
+# Runs a program of this folder eight times, linked in four ways; the rows that it printed are in $built/16 to $built/64.
+placed() {
+    for moved in 16 32 48 64; do
+        cat >"$built/moved.c" <<END
+__asm__(".section .text.moved, \"ax\", @progbits\n.globl moved\nmoved: .skip $moved, 0x90\n");
+END
+        compile_c -c -o "$built/moved.o" "$built/moved.c"
+        # Unquoted: one word for each of the compiler's.
+        compile "$1" $branches -C link-arg=-Wl,-u,moved -C link-arg="$built/moved.o"
+        { run "$built/$1"; run "$built/$1"; } | awk '!/ ns$/' >"$built/$moved"
+    done
 }
 
 if test "${1:-}" = instructions; then
     command -v qemu-x86_64 >/dev/null || { echo "needed: qemu-x86_64, of Debian's qemu-user" >&2; exit 1; }
     gcc -shared -fPIC -O2 -o "$built/count.so" "$tests/count.c"
-    compile_rust --edition 2021 -O -D warnings -C codegen-units=1 -C link-arg="$archive" -o "$built/bench" "$tests/bench.rs"
+    if test "${2:-}" = sets; then
+        compile candidates
+        echo "multiples/archive  factors/archive  periods   tasks  archive  multiples  factors"
+        for kind in divisors digits any short; do
+            for tasks in 4 8 16; do
+                for side in archive multiples factors; do
+                    executed candidates "$side" "$kind" "$tasks"
+                done | paste -s | awk -v kind="$kind" -v tasks="$tasks" '
+                    { printf "%17.1f  %15.1f  %-8s  %5d  %7d  %9d  %7d\n", $2 / $1, $3 / $1, kind, tasks, $1 / 400, $2 / 400, $3 / 400 }'
+            done
+        done
+        exit
+    fi
+    compile bench
     echo "archive/fast  call     tasks  jobs     archive        fast"
     for shape in "0 2 256" "1 2 1024" "2 2 4096" "3 16 256" "4 16 1024" "5 16 4096"; do
         # Unquoted: the set's number among the program's, its tasks and its jobs.
         set -- $shape
         for call in check derive accept rebuild go; do
             for side in archive fast; do
-                once=$(executed "$call" "$side" "$1" 1)
-                thrice=$(executed "$call" "$side" "$1" 3)
-                echo "$(((thrice - once) / 2))"
+                executed bench "$call" "$side" "$1"
             done | paste -s | awk -v call="$call" -v tasks="$2" -v jobs="$3" '
                 { printf "%12.2f  %-8s %5d %5d  %10d  %10d\n", $1 / $2, call, tasks, jobs, $1, $2 }'
         done
@@ -51,25 +90,35 @@ fi
 
 if test "${1:-}" = learnt; then
     # Unquoted: one word for each of the compiler's.
-    compile_rust --edition 2021 -O -D warnings -C codegen-units=1 $branches -C link-arg="$archive" -o "$built/bench" "$tests/bench.rs"
+    compile bench $branches
     run "$built/bench" learnt
     exit
 fi
 
-for moved in 16 32 48 64; do
-    cat >"$built/moved.c" <<END
-__asm__(".section .text.moved, \"ax\", @progbits\n.globl moved\nmoved: .skip $moved, 0x90\n");
-END
-    compile_c -c -o "$built/moved.o" "$built/moved.c"
-    # Unquoted: one word for each of the compiler's.
-    compile_rust --edition 2021 -O -D warnings -C codegen-units=1 $branches -C link-arg=-Wl,-u,moved \
-        -C link-arg="$built/moved.o" -C link-arg="$archive" -o "$built/bench" "$tests/bench.rs"
-    run "$built/bench" >"$built/$moved"
-    run "$built/bench" | awk 'FNR > 1' >>"$built/$moved"
-done
+if test "${1:-}" = sets; then
+    placed candidates
+    awk '
+        {
+            row = $1 " " $2
+            if (!(row in shape)) {
+                rows[++count] = row
+                shape[row] = sprintf("%-8s  %5s  %4s  %4s  %4s", $1, $2, $3, $4, $5)
+                for (side = 6; side <= 8; side++) least[row, side] = $side
+            }
+            for (side = 6; side <= 8; side++) if ($side + 0 < least[row, side]) least[row, side] = $side
+        }
+        END {
+            print "multiples/archive  factors/archive  periods   tasks  good     8     9  archive ns  multiples ns  factors ns"
+            for (i = 1; i <= count; i++) {
+                row = rows[i]; archive = least[row, 6]; multiples = least[row, 7]; factors = least[row, 8]
+                printf "%17.1f  %15.1f  %s  %10.1f  %12.1f  %10.1f\n", multiples / archive, factors / archive, shape[row], archive, multiples, factors
+            }
+        }' "$built/16" "$built/32" "$built/48" "$built/64"
+    exit
+fi
 
+placed bench
 awk '
-    FNR == 1 { next }
     {
         row = $2 " " $3 " " $4
         if (!(row in low)) {

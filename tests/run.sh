@@ -1,8 +1,8 @@
 #!/bin/sh
 # Runs the archive against the stored cases whose stage has landed, beside the implementation written for
-# speed, from C, and against the independent implementation over fixed cases, random cases and every image
-# of some small sets. The last line says whether the cases of 4 GiB were run. HV_ARCHIVE names another
-# archive than the repository's own.
+# speed, from C, against two plain ways to judge a set, and against the independent implementation over
+# fixed cases, random cases and every image of some small sets. The last line says whether the cases of
+# 4 GiB were run. HV_ARCHIVE names another archive than the repository's own.
 set -eu
 
 tests=$(cd "$(dirname "$0")" && pwd)
@@ -33,6 +33,9 @@ run "$built/answers" --compare <"$built/cases"
 
 build fast_answers
 run "$built/fast_answers" <"$built/cases"
+
+build candidates
+run "$built/candidates" agree
 
 for program in desk drive; do
     compile_c -std=c11 -Wall -Wextra -Werror -O2 -I "$tests/../include" -o "$built/$program" "$tests/c/$program.c" "$archive"

@@ -8,9 +8,11 @@ mod archive;
 #[allow(dead_code)]
 #[path = "independent/chance.rs"]
 mod chance;
+mod periods;
 
 use archive::{check_timetable, derive, rebuild};
 use chance::Chance;
+use periods::{fraction, of_one_cycle};
 use std::cmp::Reverse;
 use std::ops::RangeInclusive;
 
@@ -18,14 +20,6 @@ const SEED: u64 = 1;
 const SETS: usize = 1_000;
 const TASKS: RangeInclusive<usize> = 3..=12;
 
-/// Document 000's periods, 1 to 1,000 ms, in ticks of a twentieth of a millisecond: fine enough for
-/// times below the shortest period, and a cycle still has room for three of the longest.
-const SHORTEST: u32 = 20;
-const LONGEST: u32 = 20_000;
-
-/// The highly composite numbers (none below has as many divisors) from the longest period up to
-/// the longest cycle, 65,535.
-const CYCLES: [u32; 6] = [20_160, 25_200, 27_720, 45_360, 50_400, 55_440];
 const MOST_JOBS: u32 = 4_096;
 
 fn main() {
@@ -113,7 +107,7 @@ impl Set {
     /// Document 000's draw: of the first task the utilization from 0.01 to 0.99, of the others
     /// the time up to twice what the first one leaves free.
     fn draw(chance: &mut Chance, n: usize) -> Set {
-        let periods = periods(chance, n);
+        let periods = of_one_cycle(chance, n);
         let first = f64::from(periods[0]) * (0.01 + 0.98 * fraction(chance));
         let first = (first.round() as u32).clamp(1, periods[0] - 1);
         let most = u64::from(2 * (periods[0] - first));
@@ -145,29 +139,6 @@ impl Set {
             .map(|task| self.hyperperiod / task.period * task.time)
             .sum()
     }
-}
-
-/// Periods that are log-uniform, each then replaced by the nearest divisor of one cycle.
-fn periods(chance: &mut Chance, n: usize) -> Vec<u32> {
-    let cycle = chance.pick(&CYCLES);
-    let parts = (1..=cycle / SHORTEST).filter(|part| cycle % part == 0);
-    let divisors = parts.map(|part| cycle / part).filter(|d| *d <= LONGEST);
-    let divisors: Vec<u32> = divisors.collect();
-    let (low, high) = (f64::from(SHORTEST).ln(), f64::from(LONGEST).ln());
-    let mut nearest = || {
-        let drawn = low + (high - low) * fraction(chance);
-        let distance = |d: &u32| (f64::from(*d).ln() - drawn).abs();
-        let by_distance = |a: &&u32, b: &&u32| distance(a).total_cmp(&distance(b));
-        *divisors.iter().min_by(by_distance).expect("there are some")
-    };
-    let mut periods: Vec<u32> = (0..n).map(|_| nearest()).collect();
-    periods.sort();
-    periods
-}
-
-/// A number from 0 up to 1.
-fn fraction(chance: &mut Chance) -> f64 {
-    (chance.number() >> 11) as f64 / (1_u64 << 53) as f64
 }
 
 fn common_multiple(a: u32, b: u32) -> u32 {

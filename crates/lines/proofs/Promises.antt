@@ -10,7 +10,7 @@ use borrow.Author.Tests.{le-leb, lt-leb}
 use Rattle.rules.specs.declared.Entry.{Entry}
 use Rattle.rules.specs.declared.Refusal.{Refusal}
 use Rattle.rules.specs.declared.CheckAnswer.the-variants.{Refused}
-use Rattle.rules.specs.Tasks.{Set}
+use Rattle.rules.specs.Tasks.{Set, hyperperiod}
 use Rattle.rules.specs.Refusals.{Judged, gives, refuses}
 use Rattle.rules.specs.Framing.{frame-records}
 use Rattle.rules.specs.Operations.{Timed, rebuilt, check-answer, check-tables}
@@ -82,5 +82,5 @@ pub p2-listing : listing P2-bytes
     ∷ 0x30 ∷ 0x20 ∷ 0x33 ∷ 0x20 ∷ 0x31 ∷ 0x35 ∷ 0x20 ∷ 0x31 ∷ 0x36 ∷ 0x0A
     ∷ 0x6F ∷ 0x6B ∷ 0x20 ∷ 0x37 ∷ 0x0A
     ∷ [])
-unfolding listing listing-of line ok-line decimal frame-records
+unfolding listing listing-of line ok-line decimal frame-records hyperperiod
 p2-listing = refl

@@ -149,7 +149,7 @@ module _ (ts : Set) where
 
 -- the hyperperiod of a good set is at least 1
 pub good-positive : {ts : Set} {h : ℕ} → GoodSet ts h → 1 ≤ h
-good-positive {ts} {h} g = omega (arith, set-good ts h g .1, hyperperiod-positive (ts .tasks) (good-periods ts g))
+good-positive {ts} g = hyperperiod-positive ts (good-periods ts g) (g .is-hyperperiod)
 
 -- task i of a good set keeps its rule, past the end too
 pub good-rules : {ts : Set} {h : ℕ} → GoodSet ts h → (i : ℕ) → KeepsItsRule (task ts i)

@@ -1,103 +1,143 @@
--- The hyperperiod that is worked out is the least common multiple of the periods, the only one, and at least 1. Assumes nothing.
-use mathlib.Core.Path.{_≡_, refl, sym, _∙_, ap, subst}
+-- The hyperperiod of a set, found by trial, is the least common multiple of its periods, the only one, and at least 1. Assumes nothing.
+use mathlib.Core.Path.{_≡_}
 use mathlib.Core.List.{List, [], _∷_}
-use Prim.Native.Nat.{ℕ, zero, suc, _*_, _/_, _%_, _-_, _≤_, _<_, _∣_}
+use Prim.Native.Nat.{ℕ, zero, suc, _+_, _*_, _%_, _-_, _≤_, _<_, _∣_}
 use native.Mathlib.Omega.{arith}
-use native.Mathlib.Nat.{mod-lt, dvd-refl, dvd-zero, one-dvd, dvd-trans, dvd-sub, dvd-mod-iff, dvd-mul-left, dvd-mul-right-of-dvd, mul-dvd-mul-right, div-mul-cancel, dvd-of-mul-dvd-mul-left, dvd-antisymm, pos-of-dvd-of-pos, one-le-mul, mod-eq-sub-mul-div, mul-sub, mul-assoc, mul-comm}
-use lib.ListN.{length}
+use native.Mathlib.Nat.{add-zero, zero-mul, mod-lt, dvd-refl, one-dvd, dvd-trans, dvd-add, dvd-sub, dvd-mod-iff, dvd-mul-left, dvd-mul-right, dvd-of-mod-eq-zero, mod-eq-zero-of-dvd, dvd-antisymm, le-of-dvd, pos-of-dvd-of-pos, one-le-mul, suc-mul, min-eq-left, min-eq-right, max-eq-left, max-eq-right}
+use lib.ListN.{length, drop, length-drop}
+use lib.Seq.{getD-drop}
 use Rattle.rules.specs.declared.Task.{Task}
-use Rattle.rules.specs.Tasks.{common-multiple, task-in, Set, gcd, lcm, hyperperiod, IsHyperperiod}
-use Rattle.rules.proofs.Cases.{by-nat}
+use Rattle.rules.specs.Tasks.{Set, set-with, task-in, no-task, multiple-from, least-multiple, common-multiple, hyperperiod, IsLeastMultiple, IsHyperperiod}
+use Rattle.rules.proofs.Cases.{by-nat, by-le}
 
--- what divides k * a and k * b divides k times their greatest common divisor
-gcd-greatest : (turns a b k d : ℕ) → b < turns → d ∣ k * a → d ∣ k * b → d ∣ k * gcd turns a b
-gcd-greatest zero a b k d h p q = absurd (omega arith)
-gcd-greatest (suc turns) a zero k d h p q = p
-gcd-greatest (suc turns) a (suc c) k d h p q =
-    let r : k * (a % suc c) ≡ k * a - k * suc c * (a / suc c) = rw (mod-eq-sub-mul-div, mul-sub, mul-assoc) in
-    gcd-greatest turns (suc c) (a % suc c) k d (omega (arith, mod-lt a {m = suc c} (omega arith))) q
-    (rw r (dvd-sub d p (dvd-mul-right-of-dvd d q (a / suc c))))
+module _ (a b : ℕ) where
+  -- the first multiple of b from m on that a divides is m, or else the first from m + b on
+  by-turn : (P : ℕ → Type 0) (turns m : ℕ) → (a ∣ m → P m) → ((a ∣ m → ⊥) → P (multiple-from turns a b (m + b))) → P (multiple-from (suc turns) a b m)
+  by-turn P turns m here later =
+      by-nat (m % a)
+      (λ z. rw (z, multiple-from) (here (dvd-of-mod-eq-zero a z)))
+      (λ r z. rw (z, multiple-from) (later (λ d. omega (arith, mod-eq-zero-of-dvd a d))))
 
--- the greatest common divisor divides both
-gcd-divides : (turns a b : ℕ) → b < turns → (gcd turns a b ∣ a) × (gcd turns a b ∣ b)
-gcd-divides zero a b h = absurd (omega arith)
-gcd-divides (suc turns) a zero h = (dvd-refl a, dvd-zero a)
-gcd-divides (suc turns) a (suc c) h =
-    let i = gcd-divides turns (suc c) (a % suc c) (omega (arith, mod-lt a {m = suc c} (omega arith))) in
-    (dvd-mod-iff (gcd turns (suc c) (a % suc c)) (i .0) .0 (i .1), i .0)
+  -- it is not before m
+  from-on : (turns m : ℕ) → m ≤ multiple-from turns a b m
+  from-on zero m = omega arith
+  from-on (suc turns) m = by-turn (λ x. m ≤ x) turns m (λ d. omega arith) (λ n. omega (arith, from-on turns (m + b)))
 
--- any number of turns above b gives the same
-gcd-turns : (turns more a b : ℕ) → b < turns → b < more → gcd turns a b ≡ gcd more a b
-gcd-turns zero more a b h k = absurd (omega arith)
-gcd-turns (suc turns) zero a b h k = absurd (omega arith)
-gcd-turns (suc turns) (suc more) a zero h k = refl
-gcd-turns (suc turns) (suc more) a (suc c) h k =
-    gcd-turns turns more (suc c) (a % suc c) (omega (arith, mod-lt a {m = suc c} (omega arith))) (omega (arith, mod-lt a {m = suc c} (omega arith)))
+  -- b divides it where b divides m
+  a-multiple : (turns m : ℕ) → b ∣ m → b ∣ multiple-from turns a b m
+  a-multiple zero m p = p
+  a-multiple (suc turns) m p = by-turn (λ x. b ∣ x) turns m (λ d. p) (λ n. a-multiple turns (m + b) (dvd-add b p (dvd-refl b)))
 
--- one turn of the remainders keeps the greatest common divisor
-pub gcd-step : (a b : ℕ) → 0 < b → gcd (suc (a % b)) b (a % b) ≡ gcd (suc b) a b
-gcd-step a zero h = absurd (omega arith)
-gcd-step a (suc c) h = gcd-turns (suc (a % suc c)) (suc c) (suc c) (a % suc c) (omega arith) (mod-lt a {m = suc c} (omega arith))
+  -- a divides it where a divides one of so many multiples
+  found : (turns m i : ℕ) → i < turns → a ∣ m + i * b → a ∣ multiple-from turns a b m
+  found zero m i l d = absurd (omega arith)
+  found (suc turns) m zero l d = by-turn (λ x. a ∣ x) turns m (λ e. e) (λ n. absurd (n (rw (zero-mul, add-zero) at d)))
+  found (suc turns) m (suc i) l d =
+      by-turn (λ x. a ∣ x) turns m (λ e. e)
+      (λ n. found turns (m + b) i (omega arith) (let e : m + suc i * b ≡ m + b + i * b = omega (arith, suc-mul i b) in rw e at d))
 
--- the least common multiple: both divide it, it divides whatever both divide, and it is at least 1
-module _ (a b : ℕ) (pos : 0 < a) where
-  pub lcm-left : a ∣ lcm a b
-  lcm-left =
-      let g : ℕ = gcd (suc b) a b in
-      let d = gcd-divides (suc b) a b (omega arith) in
-      let e : a / g * b ≡ a * (b / g) =
-      sym (ap (λ (y : ℕ). a / g * y) (div-mul-cancel g {m = b} (d .1))) ∙ ap (λ (y : ℕ). a / g * y) (mul-comm (b / g) g)
-      ∙ sym (mul-assoc (a / g) g (b / g)) ∙ ap (λ (y : ℕ). y * (b / g)) (div-mul-cancel g {m = a} (d .0)) in
-      rw e (dvd-mul-right-of-dvd a (dvd-refl a) (b / g))
+  -- no common multiple from m on is before it
+  none-before : (turns m k : ℕ) → b ∣ m → m ≤ k → a ∣ k → b ∣ k → multiple-from turns a b m ≤ k
+  none-before zero m k p l d q = l
+  none-before (suc turns) m k p l d q =
+      by-turn (λ x. x ≤ k) turns m (λ e. l)
+      (λ n. by-le k m
+      (λ s. let e : k ≡ m = omega arith in absurd (n (rw e at d)))
+      (λ s. none-before turns (m + b) k (dvd-add b p (dvd-refl b)) (omega (arith, le-of-dvd {m = b} {n = k - m} (omega arith) (dvd-sub b q p))) d q))
 
-  pub lcm-right : b ∣ lcm a b
-  lcm-right = dvd-mul-left b (a / gcd (suc b) a b)
+-- a common multiple above 0 that is not above any other such divides every other
+smallest-divides : {a b m : ℕ} → 0 < m → a ∣ m → b ∣ m → ((k : ℕ) → 0 < k → a ∣ k → b ∣ k → m ≤ k) → IsLeastMultiple a b m
+smallest-divides {a} {b} {m} some left right smallest = record {
+  left = left;
+  right = right;
+  least = λ k d e. by-nat (k % m)
+      (λ z. dvd-of-mod-eq-zero m z)
+      (λ r z. absurd (omega (arith, mod-lt k {m = m} some, smallest (k % m) (omega arith) (dvd-mod-iff a left .1 d) (dvd-mod-iff b right .1 e))));
+}
 
-  pub lcm-least : (m : ℕ) → a ∣ m → b ∣ m → lcm a b ∣ m
-  lcm-least m p q =
-      let g : ℕ = gcd (suc b) a b in
-      let d = gcd-divides (suc b) a b (omega arith) in
-      let s : a * b ∣ m * g = gcd-greatest (suc b) a b m (a * b) (omega arith) (rw (mul-comm a b) (mul-dvd-mul-right b q a)) (mul-dvd-mul-right a p b) in
-      let e : a * b ≡ g * (a / g * b) =
-      ap (λ (y : ℕ). y * b) (sym (div-mul-cancel g {m = a} (d .0)) ∙ mul-comm (a / g) g) ∙ mul-assoc g (a / g) b in
-      let t : g * (a / g * b) ∣ g * m = subst (λ (y : ℕ). y ∣ g * m) e (subst (λ (y : ℕ). a * b ∣ y) (mul-comm m g) s) in
-      dvd-of-mul-dvd-mul-left (a / g * b) (pos-of-dvd-of-pos (d .0) pos) t
+-- so from b on it is the least common multiple
+trial : (a b : ℕ) → 0 < a → 0 < b → IsLeastMultiple a b (multiple-from a a b b)
+trial zero b p q = absurd (omega arith)
+trial (suc c) b p q =
+    let a = suc c in
+    let product : a * b ≡ b + c * b = omega (arith, suc-mul c b) in
+    smallest-divides (omega (arith, from-on a b a b)) (found a b a b c (omega arith) (rw product at (dvd-mul-right a b))) (a-multiple a b a b (dvd-refl b))
+    (λ k s d e. none-before a b a b k (dvd-refl b) (le-of-dvd s e) d e)
 
-  pub lcm-positive : 0 < b → 0 < lcm a b
-  lcm-positive h =
-      let g : ℕ = gcd (suc b) a b in
-      let e : a / g * g ≡ a = div-mul-cancel g {m = a} (gcd-divides (suc b) a b (omega arith) .0) in
-      by-nat (a / g) (λ z. let y : 0 * g ≡ a = rw z at e in absurd (omega arith)) (λ m z. one-le-mul (omega arith) h)
+-- the order of the two does not matter
+turned : {a b m : ℕ} → IsLeastMultiple a b m → IsLeastMultiple b a m
+turned p = record { left = p .right; right = p .left; least = λ k d e. p .least k e d }
+
+-- the least common multiple by trial is the least common multiple
+least-multiple-is : (a b : ℕ) → 0 < a → 0 < b → IsLeastMultiple a b (least-multiple a b)
+least-multiple-is a b p q =
+    by-le a b
+    (λ l. rw (min-eq-left l, max-eq-right l) (trial a b p q))
+    (λ g. let l : b ≤ a = omega arith in rw (min-eq-right l, max-eq-left l) (turned (trial b a q p)))
+
+-- so two numbers of at least 1 have one
+pub have-multiple : (a b : ℕ) → 0 < a → 0 < b → (m : ℕ) × IsLeastMultiple a b m
+have-multiple a b p q = (least-multiple a b, least-multiple-is a b p q)
+
+-- it is at least 1
+pub multiple-positive : {a b m : ℕ} → 0 < a → 0 < b → IsLeastMultiple a b m → 0 < m
+multiple-positive {a} {b} p q is = pos-of-dvd-of-pos (is .least (a * b) (dvd-mul-right a b) (dvd-mul-left b a)) (one-le-mul p q)
+
+-- of a number and its multiple it is the multiple
+pub of-multiple : {a b : ℕ} → a ∣ b → IsLeastMultiple a b b
+of-multiple {a} {b} d = record { left = d; right = dvd-refl b; least = λ k p q. q }
+
+-- of a number and 1 it is the number
+pub with-one : (a : ℕ) → IsLeastMultiple a 1 a
+with-one a = turned (of-multiple (one-dvd a))
 
 -- every period is at least 1
 abbrev pub Positive : List Task → Type 0
 Positive ts = (i : ℕ) → i < length ts → 1 ≤ task-in ts i .period
 
--- the common-multiple worked out is at least 1
-pub hyperperiod-positive : (ts : List Task) → Positive ts → 1 ≤ common-multiple ts
-hyperperiod-positive [] pos = omega arith
-hyperperiod-positive (t ∷ ts) pos =
-    lcm-positive (t .period) (common-multiple ts) (pos 0 (omega arith)) (hyperperiod-positive ts (λ i l. pos (suc i) (omega arith)))
+-- the hyperperiod of no task
+pub no-periods : IsHyperperiod (set-with []) 1
+no-periods = record { common = λ i l. absurd (omega arith); least = λ m c. one-dvd m }
 
--- every period divides it
-hyperperiod-common : (ts : List Task) → Positive ts → (i : ℕ) → i < length ts → task-in ts i .period ∣ common-multiple ts
-hyperperiod-common [] pos i l = absurd (omega arith)
-hyperperiod-common (t ∷ ts) pos zero l = lcm-left (t .period) (common-multiple ts) (pos 0 l)
-hyperperiod-common (t ∷ ts) pos (suc i) l =
-    dvd-trans (task-in ts i .period) (hyperperiod-common ts (λ j m. pos (suc j) (omega arith)) i (omega arith))
-    (lcm-right (t .period) (common-multiple ts) (pos 0 (omega arith)))
+-- with a task in front it is the least common multiple of that task's period and the others' hyperperiod
+module _ (t : Task) {ts : List Task} {h m : ℕ} (others : IsHyperperiod (set-with ts) h) (both : IsLeastMultiple (t .period) h m) where
+  each-divides : (i : ℕ) → i < length (t ∷ ts) → task-in (t ∷ ts) i .period ∣ m
+  each-divides zero l = both .left
+  each-divides (suc i) l = dvd-trans (task-in ts i .period) (others .common i (omega arith)) (both .right)
 
--- it divides every number that every period divides
-hyperperiod-least : (ts : List Task) → Positive ts → (m : ℕ) → ((i : ℕ) → i < length ts → task-in ts i .period ∣ m) → common-multiple ts ∣ m
-hyperperiod-least [] pos m c = one-dvd m
-hyperperiod-least (t ∷ ts) pos m c =
-    lcm-least (t .period) (common-multiple ts) (pos 0 (omega arith)) m (c 0 (omega arith))
-    (hyperperiod-least ts (λ i l. pos (suc i) (omega arith)) m (λ i l. c (suc i) (omega arith)))
+  pub one-period-more : IsHyperperiod (set-with (t ∷ ts)) m
+  one-period-more = record {
+    common = each-divides;
+    least = λ k c. both .least k (c 0 (omega arith)) (others .least k (λ i l. c (suc i) (omega arith)));
+  }
 
--- the hyperperiod worked out is the hyperperiod
-pub hyperperiod-is : (ts : Set) → Positive (ts .tasks) → IsHyperperiod ts (hyperperiod ts)
-hyperperiod-is ts pos = record { common = hyperperiod-common (ts .tasks) pos; least = hyperperiod-least (ts .tasks) pos }
+-- of one task it is its period
+pub one-period : (t : Task) → IsHyperperiod (set-with (t ∷ [])) (t .period)
+one-period t = one-period-more t no-periods (with-one (t .period))
+
+-- that of the tasks from a place on divides that of them all
+pub rest-divides : {ts : List Task} {h k : ℕ} (i : ℕ) → IsHyperperiod (set-with ts) h → IsHyperperiod (set-with (drop i ts)) k → k ∣ h
+rest-divides {ts} {h} i all rest =
+    rest .least h (λ j l. rw (getD-drop i ts j no-task) (all .common (i + j) (omega (arith, length-drop i ts))))
 
 -- a set has one hyperperiod
 pub one-hyperperiod : {ts : Set} {h h′ : ℕ} → IsHyperperiod ts h → IsHyperperiod ts h′ → h ≡ h′
 one-hyperperiod {ts} {h} {h′} p q = dvd-antisymm (p .least h′ (q .common)) (q .least h (p .common))
+
+-- the hyperperiod by trial is at least 1, and is the hyperperiod
+tried : (ts : List Task) → Positive ts → (1 ≤ common-multiple ts) × IsHyperperiod (set-with ts) (common-multiple ts)
+tried [] pos = (omega arith, no-periods)
+tried (t ∷ ts) pos =
+    let rest = tried ts (λ i l. pos (suc i) (omega arith)) in
+    let both = least-multiple-is (t .period) (common-multiple ts) (pos 0 (omega arith)) (rest .0) in
+    (multiple-positive (pos 0 (omega arith)) (rest .0) both, one-period-more t (rest .1) both)
+
+module _ (ts : Set) (pos : Positive (ts .tasks)) where
+  pub hyperperiod-is : IsHyperperiod ts (hyperperiod ts)
+  unfolding hyperperiod
+  hyperperiod-is = tried (ts .tasks) pos .1
+
+  -- and any hyperperiod is at least 1
+  pub hyperperiod-positive : {h : ℕ} → IsHyperperiod ts h → 1 ≤ h
+  unfolding hyperperiod
+  hyperperiod-positive p = omega (arith, one-hyperperiod p hyperperiod-is, tried (ts .tasks) pos .0)

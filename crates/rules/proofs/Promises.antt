@@ -245,7 +245,7 @@ one-place-for-offsets = standing.one-offsets
 -- not vacuous: P2 is accepted
 
 pub p2-is-accepted : check-tables P2-bytes ≡ check-case.Accepted
-unfolding check-tables frame-records
+unfolding check-tables frame-records hyperperiod
 p2-is-accepted = refl
 
 -- DEMAND 1, SETS: the refusal is the first of 5 to 9 in the document's order whose condition holds, and there is none exactly where the set is good

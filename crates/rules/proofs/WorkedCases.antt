@@ -2,11 +2,12 @@
 use mathlib.Core.Path.{_≡_, refl}
 use mathlib.Core.List.{map}
 use lib.ListN.{length}
+use Rattle.rules.specs.Tasks.{hyperperiod}
 use Rattle.rules.specs.Framing.{frame-records}
 use Rattle.rules.specs.Worked.{worked, worked-out, P2-bytes}
 
 pub all-worked : map worked-out worked ≡ worked
-unfolding frame-records
+unfolding frame-records hyperperiod
 all-worked = refl
 
 -- P2's image has 91 bytes

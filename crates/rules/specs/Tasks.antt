@@ -2,7 +2,7 @@
 use mathlib.Core.Bool.{Bool, true, false}
 use mathlib.Core.List.{List, [], _∷_, _++_}
 use mathlib.Core.Option.{Option, none}
-use Prim.Native.Nat.{ℕ, zero, suc, _+_, _*_, _/_, _%_, _≤_, _<_, _∣_}
+use Prim.Native.Nat.{ℕ, zero, suc, _+_, _*_, _/_, _%_, min, max, _≤_, _<_, _∣_}
 use lib.Dec.{leb}
 use lib.ListN.{length, getD, take}
 use Rattle.rules.specs.declared.Task.{Task}
@@ -70,6 +70,12 @@ pub record KeepsItsRule (t : Task) : Type 0 where
   pub fits : t .time ≤ t .deadline
   pub within : t .offset + t .deadline ≤ t .period
 
+-- the least common multiple of two numbers: both divide it, and it divides every other number that both divide
+pub record IsLeastMultiple (a b m : ℕ) : Type 0 where
+  pub left : a ∣ m
+  pub right : b ∣ m
+  pub least : (k : ℕ) → a ∣ k → b ∣ k → m ∣ k
+
 -- the hyperperiod: every period divides it, and it divides every other number that every period divides
 pub record IsHyperperiod (ts : Set) (h : ℕ) : Type 0 where
   pub common : (i : ℕ) → i < length (ts .tasks) → task ts i .period ∣ h
@@ -85,20 +91,21 @@ pub record GoodSet (ts : Set) (h : ℕ) : Type 0 where
   pub short : h ≤ limits .ticks
   pub few-jobs : all-jobs h ts ≤ limits .jobs
 
--- the greatest common divisor by remainders, in enough turns, and the least common multiple
-abbrev pub gcd : ℕ → ℕ → ℕ → ℕ
-gcd zero a b = a
-gcd (suc turns) a b = elim b [ zero ↦ a | suc c ↦ gcd turns (suc c) (a % suc c) ]
+-- the first multiple of b from m on that a divides, in so many turns
+abbrev pub multiple-from : ℕ → ℕ → ℕ → ℕ → ℕ
+multiple-from zero a b m = m
+multiple-from (suc turns) a b m = elim (m % a) [ zero ↦ m | suc r ↦ multiple-from turns a b (m + b) ]
 
-abbrev pub lcm : ℕ → ℕ → ℕ
-lcm a b = a / gcd (suc b) a b * b
+-- the least common multiple of two numbers, by trial: the first multiple of the larger that the smaller divides
+abbrev pub least-multiple : ℕ → ℕ → ℕ
+least-multiple a b = multiple-from (min a b) (min a b) (max a b) (max a b)
 
--- the hyperperiod of a set, worked out
+-- the hyperperiod of a set, by trial
 abbrev pub common-multiple : List Task → ℕ
 common-multiple [] = 1
-common-multiple (t ∷ ts) = lcm (t .period) (common-multiple ts)
+common-multiple (t ∷ ts) = least-multiple (t .period) (common-multiple ts)
 
-abbrev pub hyperperiod : Set → ℕ
+unfoldable pub hyperperiod : Set → ℕ
 hyperperiod ts = common-multiple (ts .tasks)
 
 -- do two tests both pass

@@ -3,35 +3,21 @@ use mathlib.Core.Path.{_≡_, sym, _∙_, ap}
 use mathlib.Core.Bool.{Bool, true, false, not}
 use mathlib.Core.List.{List, [], _∷_}
 use mathlib.Core.Option.{none}
-use Prim.Native.Nat.{ℕ, zero, suc, _+_, _*_, _/_, _-_, _≤_, _<_, _∣_}
+use Prim.Native.Nat.{ℕ, suc, _+_, _*_, _/_, _-_, _≤_, _<_, _∣_}
 use native.Mathlib.Omega.{arith}
-use native.Mathlib.Nat.{div-le-self, div-zero, dvd-refl}
+use native.Mathlib.Nat.{div-le-self, div-zero, dvd-refl, le-of-dvd}
 use lib.ListN.{length, take, drop}
 use borrow.Author.Tests.{le-leb, not-true, not-false}
 use Rattle.rules.specs.declared.Task.{Task}
 use Rattle.rules.specs.declared.TaskSet.{TaskSet}
-use Rattle.rules.specs.Tasks.{limits, jobs, sum-of-jobs, lcm, common-multiple, keeps-its-rule, tasks-fault}
+use Rattle.rules.specs.Tasks.{limits, set-with, jobs, sum-of-jobs, IsLeastMultiple, IsHyperperiod, memory-set, keeps-its-rule, tasks-fault}
 use Rattle.rules.proofs.Cases.{differ}
 use Rattle.rules.proofs.GoodSets.{task-keeps, keeps-task}
-use Rattle.rules.proofs.Hyperperiod.{Positive, lcm-left, lcm-positive, hyperperiod-positive}
-use Rattle.sets.specs.Sets.{capped, first-tasks, InSlots, HasCycle}
-use Rattle.sets.proofs.Multiples.{told-within, lcm-above, lcm-of-multiple, lcm-of-one}
+use Rattle.rules.proofs.Hyperperiod.{multiple-positive, with-one, no-periods, one-period, one-period-more, rest-divides}
+use Rattle.sets.specs.Sets.{first-tasks, MultipleTold, InSlots, HasCycle}
+use Rattle.sets.proofs.Multiples.{told-within, multiple-told}
 use Rattle.sets.proofs.Slots.{slot, none-left, one-more}
-use Rattle.sets.proofs.Faults.{own-rules}
-use Rattle.sets.proofs.Answers.{cycle-rules, cycle-order}
-
--- tasks with no fault have periods of at least 1
-positive : (ts : List Task) → tasks-fault 1 0 ts ≡ none → Positive ts
-positive ts e i l = let r = own-rules ts e i l in omega arith
-
--- the hyperperiod of the tasks from a place on is not above that of them all
-hyperperiod-rest : (ts : List Task) → Positive ts → (i : ℕ) → common-multiple (drop i ts) ≤ common-multiple ts
-hyperperiod-rest ts pos zero = omega arith
-hyperperiod-rest [] pos (suc i) = omega arith
-hyperperiod-rest (t ∷ ts) pos (suc i) =
-    let tail : Positive ts = λ j l. pos (suc j) (omega arith) in
-    let rest = hyperperiod-rest ts tail i in
-    omega (arith, lcm-above (t .period) (common-multiple ts) (pos 0 (omega arith)) (hyperperiod-positive ts tail) .1)
+use Rattle.sets.proofs.Answers.{cycle-positive, cycle-rules, cycle-order}
 
 -- h is the hyperperiod of the first n tasks from place i on, and up to the limit; the period after, the first of them, divides it; and they have no fault
 -- behind a period up to it
@@ -42,7 +28,7 @@ pub record CycleFrom (slots : List Task) (n i after h : ℕ) : Type 0 where
   pub short : h ≤ limits .ticks
   pub next : after ≡ slot slots i .period
   pub divides : after ∣ h
-  pub is : h ≡ common-multiple (drop i (take n slots))
+  pub is : IsHyperperiod (set-with (drop i (take n slots))) h
   pub ordered : (place before : ℕ) → before ≤ after → tasks-fault place before (drop i (take n slots)) ≡ none
 
 -- a task that passed the test of its own rule, as it was told, has a period of at least 1
@@ -63,11 +49,12 @@ module _ {s : TaskSet} {m : ℕ} (g : HasCycle s m) (i : ℕ) (p : 0 < i) (l : i
       omega arith
 
   -- and the least common multiple with the hyperperiod from there on is not above the limit
-  pub not-long-before : (h : ℕ) → h ≡ common-multiple (drop i (first-tasks s)) → limits .ticks < lcm (t .period) h → ⊥
-  not-long-before h is above =
+  pub not-long-before : {h k : ℕ} → IsHyperperiod (set-with (drop i (first-tasks s))) h → IsLeastMultiple (t .period) h k → limits .ticks < k → ⊥
+  unfolding memory-set
+  not-long-before is both above =
       let room : s .n ≤ length (s .tasks) = omega (arith, g .in-slots .few-tasks, g .in-slots .slots) in
-      let more : lcm (t .period) h ≡ common-multiple (drop (i - 1) (first-tasks s)) = rw (one-more (s .tasks) (s .n) i room t p l here, is) in
-      omega (arith, hyperperiod-rest (first-tasks s) (positive (first-tasks s) (g .faultless)) (i - 1), g .ticks, g .short)
+      let more = rw (← one-more (s .tasks) (s .n) i room t p l here) at (one-period-more t is both) in
+      omega (arith, le-of-dvd (cycle-positive g) (rest-divides (i - 1) (g .ticks) more), g .short)
 
 -- at the last task h is its period
 module _ (slots : List Task) (n : ℕ) (p : 0 < n) (room : n ≤ length slots) (t : Task) (here : t ≡ slot slots (n - 1)) where
@@ -82,7 +69,7 @@ module _ (slots : List Task) (n : ℕ) (p : 0 < n) (room : n ≤ length slots) (
     short = l;
     next = ap (λ (u : Task). u .period) here;
     divides = dvd-refl (t .period);
-    is = rw last-alone (lcm-of-one (t .period) (tested-period t kept is b));
+    is = rw last-alone (one-period t);
     ordered = λ place before low. rw (last-alone, ← is, not-false kept b, le-leb before (t .period) low);
   }
 
@@ -90,37 +77,35 @@ module _ (slots : List Task) (n : ℕ) (p : 0 < n) (room : n ≤ length slots) (
 module _ {slots : List Task} {n i after h : ℕ} (c : CycleFrom slots n i after h) (p : 0 < i) (t : Task) (here : t ≡ slot slots (i - 1))
     (kept : Bool) (is : kept ≡ keeps-its-rule t) (b : not kept ≡ false) where
   -- with its period, not above the one after it, h goes on to the least common multiple where that is up to the limit
-  pub cycle-more : (r : ℕ) → r ≡ capped (lcm (t .period) h) → r ≤ limits .ticks → t .period ≤ after → CycleFrom slots n (i - 1) (t .period) r
-  cycle-more r e l low =
-      let same : r ≡ lcm (t .period) h = e ∙ told-within _ (omega arith) in
-      let some = tested-period t kept is b in
+  pub cycle-more : (r : ℕ) → MultipleTold (t .period) h r → r ≤ limits .ticks → t .period ≤ after → CycleFrom slots n (i - 1) (t .period) r
+  cycle-more r m l low =
+      let same : r ≡ m .multiple = m .told ∙ told-within _ (omega (arith, m .told)) in
       let front = one-more slots n i (c .room) t p (omega (arith, c .place)) here in
       record {
         place = omega (arith, c .place);
         room = c .room;
-        some-ticks = omega (arith, lcm-positive (t .period) h some (c .some-ticks));
+        some-ticks = omega (arith, multiple-positive (tested-period t kept is b) (c .some-ticks) (m .is));
         short = l;
         next = ap (λ (u : Task). u .period) here;
-        divides = rw same (lcm-left (t .period) h some);
-        is = same ∙ rw (front, c .is);
-        ordered = λ place before m. rw (front, ← is, not-false kept b, le-leb before (t .period) m) (c .ordered (suc place) (t .period) low);
+        divides = rw same (m .is .left);
+        is = rw (front, same) (one-period-more t (c .is) (m .is));
+        ordered = λ place before k. rw (front, ← is, not-false kept b, le-leb before (t .period) k) (c .ordered (suc place) (t .period) low);
       }
 
   -- it stays where the period is the one after it
   pub cycle-same : t .period ≡ after → CycleFrom slots n (i - 1) after h
-  cycle-same e =
-      rw e at (cycle-more h (lcm-of-multiple (t .period) h (tested-period t kept is b) (c .short) (rw e (c .divides))) (c .short) (omega arith))
+  cycle-same e = rw e at (cycle-more h (multiple-told (rw e (c .divides)) (c .short)) (c .short) (omega arith))
 
 -- the last task's period is not above the limit where the set has a cycle
 pub last-not-long : {s : TaskSet} {m : ℕ} → HasCycle s m → (t : Task) → t ≡ slot (s .tasks) (s .n - 1) → limits .ticks < t .period → ⊥
 last-not-long {s} g t here above =
     let some = g .in-slots .some-tasks in
-    let rule = cycle-rules g t (s .n - 1) (omega arith) here in
-    let alone : t .period ≡ lcm (t .period) 1 = lcm-of-one (t .period) (omega arith) in
-    not-long-before g (s .n) (omega arith) (omega arith) t here 1 (rw (none-left (s .tasks) (s .n) (s .n) (omega arith))) (omega arith)
+    not-long-before g (s .n) (omega arith) (omega arith) t here
+    (rw (none-left (s .tasks) (s .n) (s .n) (omega arith)) no-periods) (with-one (t .period)) above
 
 -- at the first task it is the hyperperiod, and no task has a fault
 pub cycle-ends : {s : TaskSet} {i after h : ℕ} → InSlots s → CycleFrom (s .tasks) (s .n) i after h → i ≡ 0 → HasCycle s h
+unfolding memory-set
 cycle-ends {s} {i} {after} {h} m c z = record {
   in-slots = m;
   faultless = rw z at (c .ordered 1 0 (omega arith));

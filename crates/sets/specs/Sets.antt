@@ -2,7 +2,7 @@
 use mathlib.Core.Path.{_≡_}
 use mathlib.Core.List.{List}
 use mathlib.Core.Option.{Option, none, some}
-use Prim.Native.Nat.{ℕ, zero, suc, _≤_}
+use Prim.Native.Nat.{ℕ, zero, suc, _≤_, _∣_}
 use lib.Dec.{leb}
 use lib.ListN.{length, take}
 use Rattle.rules.specs.declared.Task.{Task}
@@ -13,13 +13,25 @@ use Rattle.rules.specs.declared.SetAnswer.{SetAnswer}
 use Rattle.rules.specs.declared.SetAnswer.the-variants as set-case
 use Rattle.rules.specs.Refusals.{gives, or-else, unless}
 use Rattle.rules.specs.Timetable.{pick}
-use Rattle.rules.specs.Tasks.{limits, common-multiple, all-jobs, GoodSet, tasks-fault, memory-set, set-answer, judge-set}
+use Rattle.rules.specs.Tasks.{limits, all-jobs, IsLeastMultiple, IsHyperperiod, GoodSet, tasks-fault, memory-set, set-answer, judge-set}
 use Rattle.sets.specs.declared.Cycle.{Cycle}
 use Rattle.sets.specs.declared.Cycle.the-variants as cycle-case
 
 -- a number of ticks up to the limit, or one above it
 abbrev pub capped : ℕ → ℕ
 capped h = pick (leb h (limits .ticks)) h (suc (limits .ticks))
+
+-- the greatest common divisor of two numbers: it divides both, and every other number that divides both divides it
+pub record IsGreatestDivisor (a b d : ℕ) : Type 0 where
+  pub left : d ∣ a
+  pub right : d ∣ b
+  pub greatest : (e : ℕ) → e ∣ a → e ∣ b → e ∣ d
+
+-- the least common multiple of two numbers as it is told, up to the limit or one above it
+pub record MultipleTold (a b r : ℕ) : Type 0 where
+  pub multiple : ℕ
+  pub is : IsLeastMultiple a b multiple
+  pub told : r ≡ capped multiple
 
 -- a refusal with number 0 stands for none
 abbrev pub fault-in : Refusal → ℕ → Option Refusal
@@ -43,7 +55,7 @@ pub record InSlots (s : TaskSet) : Type 0 where
 pub record HasCycle (s : TaskSet) (h : ℕ) : Type 0 where
   pub in-slots : InSlots s
   pub faultless : tasks-fault 1 0 (first-tasks s) ≡ none
-  pub ticks : h ≡ common-multiple (first-tasks s)
+  pub ticks : IsHyperperiod (memory-set s) h
   pub short : h ≤ limits .ticks
 
 -- the ticks that are told of a set's cycle: its hyperperiod, 0 where it has none

@@ -7,11 +7,11 @@ use rules::SetAnswer;
 use rules::Task;
 use rules::TaskSet;
 ghost use mathlib.Core.Path.{_≡_};
-ghost use Prim.Native.Nat.{suc, _+_, max, _≤_};
+ghost use Prim.Native.Nat.{_+_, max, _≤_};
 ghost use lib.ListN.{length};
 ghost use Rattle.rules.specs.Tasks as book;
 ghost use Rattle.numbers.specs.Numbers.{tasks-from, set-from};
-ghost use Rattle.sets.specs.Sets.{capped, FirstFault, HasCycle, TicksTold, CycleTold, limited};
+ghost use Rattle.sets.specs.Sets.{IsGreatestDivisor, MultipleTold, FirstFault, HasCycle, TicksTold, CycleTold, limited};
 ghost use Rattle.sets.specs.Kept.{InRows, Keeps, JudgedKept};
 ghost use Rattle.sets.specs.Scans.{lowest-below, least-of};
 
@@ -117,9 +117,7 @@ fn tasks_fault(n: usize, numbers: &[u32], at: usize) -> Refusal
 
 // The greatest common divisor of two numbers, by remainders.
 fn common_divisor(t: u32, h: u32) -> u32
-    requires { ⌜ 1 ≤ t ⌝ }
-    ensures positive { λ r. ⌜ 1 ≤ r ⌝ }
-    ensures greatest { λ r. ⌜ r ≡ book.gcd (suc h) t h ⌝ }
+    ensures { λ r. ⌜ IsGreatestDivisor t h r ⌝ }
 {
     let mut a = t;
     let mut b = h;
@@ -136,7 +134,7 @@ fn common_multiple(t: u32, h: u32) -> u32
     requires period { ⌜ 1 ≤ t ⌝ }
     requires ticks { ⌜ 1 ≤ h ⌝ }
     requires short { ⌜ h ≤ 65535 ⌝ }
-    ensures { λ r. ⌜ r ≡ capped (book.lcm t h) ⌝ }
+    ensures { λ r. ⌜ MultipleTold t h r ⌝ }
 {
     if 65535 < t {
         return 65536;

@@ -125,8 +125,8 @@ returns-3 c =
     let p = read .before .loop-test .taken in
     none-told (λ h g. ⊎-elim
     (λ w. not-falling-before g (at .loop .i) p (omega (arith, inv .place)) _ (next-read read) _ (inv .place) (inv .next) (w .taken))
-    (λ w. not-long-before g (at .loop .i) p (omega (arith, inv .place)) _ (next-read read) _ (inv .is)
-    (told-long _ (omega (arith, multiple .common-multiple .ensures, ltb-true 65535 (multiple .common-multiple .result) (w .1 .taken)))))
+    (λ w. not-long-before g (at .loop .i) p (omega (arith, inv .place)) _ (next-read read) (inv .is) (multiple .common-multiple .ensures .is)
+    (told-long _ (omega (arith, multiple .common-multiple .ensures .told, ltb-true 65535 (multiple .common-multiple .result) (w .1 .taken)))))
     (c .if5 .came))
 
 loop-less : tie.Need-loop-less Inv-loop μ-loop
