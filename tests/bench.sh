@@ -20,15 +20,20 @@ test -f "$archive" || { echo "no archive at $archive" >&2; exit 1; }
 built=$(mktemp -d)
 trap 'rm -rf "$built"' EXIT
 
-# Prints how many instructions a program executes for one call with these arguments, behind which stands
-# how many times: half the difference between one time and three.
-executed() {
+# Prints how many instructions a program executes with these arguments.
+counted() {
     program=$1
     shift
-    for times in 1 3; do
-        COUNTED="$built/counted" qemu-x86_64 -plugin "$built/count.so" "$built/$program" "$@" "$times"
-        cat "$built/counted"
-    done | paste -s | awk '{ printf "%d\n", ($2 - $1) / 2 }'
+    COUNTED="$built/counted" qemu-x86_64 -plugin "$built/count.so" "$built/$program" "$@"
+    cat "$built/counted"
+}
+
+# Prints how many it executes for one call with these arguments, behind which stands how many times: half
+# the difference between one time and three.
+executed() {
+    once=$(counted "$@" 1)
+    thrice=$(counted "$@" 3)
+    echo "$(((thrice - once) / 2))"
 }
 
 # Compiles a program of this folder with the archive.
@@ -47,7 +52,9 @@ END
         compile_c -c -o "$built/moved.o" "$built/moved.c"
         # Unquoted: one word for each of the compiler's.
         compile "$1" $branches -C link-arg=-Wl,-u,moved -C link-arg="$built/moved.o"
-        { run "$built/$1"; run "$built/$1"; } | awk '!/ ns$/' >"$built/$moved"
+        run "$built/$1" >"$built/first"
+        run "$built/$1" >"$built/second"
+        awk 'FNR > 1' "$built/first" "$built/second" >"$built/$moved"
     done
 }
 
@@ -62,6 +69,7 @@ if test "${1:-}" = instructions; then
                 for side in archive multiples factors; do
                     executed candidates "$side" "$kind" "$tasks"
                 done | paste -s | awk -v kind="$kind" -v tasks="$tasks" '
+                    NF != 3 { exit 1 }
                     { printf "%17.1f  %15.1f  %-8s  %5d  %7d  %9d  %7d\n", $2 / $1, $3 / $1, kind, tasks, $1 / 400, $2 / 400, $3 / 400 }'
             done
         done
@@ -76,6 +84,7 @@ if test "${1:-}" = instructions; then
             for side in archive fast; do
                 executed bench "$call" "$side" "$1"
             done | paste -s | awk -v call="$call" -v tasks="$2" -v jobs="$3" '
+                NF != 2 { exit 1 }
                 { printf "%12.2f  %-8s %5d %5d  %10d  %10d\n", $1 / $2, call, tasks, jobs, $1, $2 }'
         done
     done
