@@ -1,20 +1,15 @@
 //! Refusals of framing in words: 1 to 5 and 10.
 
-use crate::archive::Kind;
-use crate::records::{Body, Fault, Image};
+use crate::archive::{Kind, Refusal};
+use crate::records::{Body, Fault, Image, Standing};
 use crate::wording::{at, by, explained, many, otherwise, Explanation};
 
 const MOST_TASKS: u64 = 16;
 
-pub fn cut(image: &Image, kind: Kind, place: usize) -> Explanation {
-    let due = due_at(image, kind, place);
-    let broken = match &image.rest {
-        None => {
-            let (mark, length) = (due.least, due.least_length);
-            let missing = format!("at least {mark} is missing, {}", many(length, "byte"));
-            by(length, missing)
-        }
-        Some(rest) => match rest.fault {
+pub fn cut(image: &Image, kind: Kind, refusal: Refusal) -> Explanation {
+    let due = due_at(image, kind, refusal.place);
+    let broken = match image.standing_at(refusal.offset) {
+        Standing::Rest(rest) => match rest.fault {
             Fault::Cut(form) => {
                 let (whole, there) = (form.length() as u64, rest.bytes.len() as u64);
                 let missing = whole - there;
@@ -29,27 +24,32 @@ pub fn cut(image: &Image, kind: Kind, place: usize) -> Explanation {
                 "a mark has 2 bytes, the file ends after its first: 1 missing".into(),
             ),
         },
+        _ => {
+            let (mark, length) = (due.least, due.least_length);
+            let missing = format!("at least {mark} is missing, {}", many(length, "byte"));
+            by(length, missing)
+        }
     };
     Explanation {
-        place: at(image, place),
+        place: at(image, refusal),
         rule: "every record is whole, and the last one is EN".into(),
         broken: vec![broken],
         before: None,
     }
 }
 
-pub fn stranger(image: &Image, kind: Kind, place: usize) -> Explanation {
-    let due = due_at(image, kind, place);
-    let found = match (image.records.get(place), &image.rest) {
-        (Some(record), _) => format!("{} stands here", record.form.mark),
-        (None, Some(rest)) => match rest.fault {
+pub fn stranger(image: &Image, kind: Kind, refusal: Refusal) -> Explanation {
+    let due = due_at(image, kind, refusal.place);
+    let found = match image.standing_at(refusal.offset) {
+        Standing::Record(record) => format!("{} stands here", record.form.mark),
+        Standing::Rest(rest) => match rest.fault {
             Fault::Cut(form) => format!("{} begins here", form.mark),
             _ => format!("{:02X} {:02X} is no mark", rest.bytes[0], rest.bytes[1]),
         },
-        (None, None) => "nothing stands here".to_string(),
+        Standing::Nothing => "nothing stands here".to_string(),
     };
     Explanation {
-        place: at(image, place),
+        place: at(image, refusal),
         rule: format!("here comes {}{}", due.marks, due.because),
         broken: vec![otherwise(found)],
         before: None,
@@ -98,12 +98,12 @@ fn due_at(image: &Image, kind: Kind, place: usize) -> Due {
     }
 }
 
-pub fn head(image: &Image, wanted: Kind, number: u32) -> Option<Explanation> {
-    let Body::Ts { edition, kind, n } = image.records.first()?.body else {
+pub fn head(image: &Image, wanted: Kind, refusal: Refusal) -> Option<Explanation> {
+    let Body::Ts { edition, kind, n } = image.record_at(refusal.offset)?.body else {
         return None;
     };
-    let place = at(image, 0);
-    match number {
+    let place = at(image, refusal);
+    match refusal.number {
         3 => {
             let broken = otherwise(format!("the edition is {edition}"));
             explained(place, "the edition is 1", vec![broken])
@@ -132,12 +132,12 @@ pub fn head(image: &Image, wanted: Kind, number: u32) -> Option<Explanation> {
     }
 }
 
-pub fn end(image: &Image, place: usize) -> Option<Explanation> {
-    let Body::En { before } = image.records.get(place)?.body else {
+pub fn end(image: &Image, refusal: Refusal) -> Option<Explanation> {
+    let Body::En { before } = image.record_at(refusal.offset)?.body else {
         return None;
     };
     let mut broken = Vec::new();
-    let (said, there) = (before, place as u64);
+    let (said, there) = (before, refusal.place as u64);
     if said != there {
         let (amount, side) = (
             said.abs_diff(there),
@@ -154,5 +154,5 @@ pub fn end(image: &Image, place: usize) -> Option<Explanation> {
         broken.push(by(length, text));
     }
     let rule = "EN says how many records come before it, and nothing follows it";
-    explained(at(image, place), rule, broken)
+    explained(at(image, refusal), rule, broken)
 }

@@ -1,19 +1,21 @@
 //! Refusals of task sets in words: 6 to 9.
 
+use crate::archive::Refusal;
 use crate::records::{Image, Task};
 use crate::wording::{at, by, explained, Broken, Explanation};
 
 const LONGEST_HYPERPERIOD: u64 = 65_535;
 const MOST_JOBS: u64 = 4_096;
 
-pub fn task(image: &Image, place: usize, number: u32) -> Option<Explanation> {
+pub fn task(image: &Image, refusal: Refusal) -> Option<Explanation> {
+    let place = at(image, refusal);
     let tasks = image.tasks();
-    let own = *tasks.get(place.checked_sub(1)?)?;
-    if number == 6 {
+    let task = refusal.place.checked_sub(1)?;
+    let own = *tasks.get(task)?;
+    if refusal.number == 6 {
         let rule = "1 <= C <= D and O + D <= T";
-        return explained(at(image, place), rule, own_rule(own));
+        return explained(place, rule, own_rule(own));
     }
-    let task = place - 1;
     let before = tasks.get(task.checked_sub(1)?)?.period;
     let below = before.checked_sub(own.period)?;
     let text = format!(
@@ -22,7 +24,7 @@ pub fn task(image: &Image, place: usize, number: u32) -> Option<Explanation> {
         task - 1
     );
     let rule = "periods do not fall from one task to the next";
-    explained(at(image, place), rule, vec![by(below, text)])
+    explained(place, rule, vec![by(below, text)])
 }
 
 fn own_rule(task: Task) -> Vec<Broken> {

@@ -1,14 +1,16 @@
 //! Refusals of tables in words: 17 to 19.
 
 use crate::about_timetables::lateness;
+use crate::archive::Refusal;
 use crate::records::{Body, Image, Job, Set};
 use crate::replay::{replay, Replay};
 use crate::wording::{at, by, explained, many, named, otherwise, record_at, Broken, Explanation};
 
-pub fn table_record(image: &Image, place: usize) -> Option<Explanation> {
+pub fn table_record(image: &Image, refusal: Refusal) -> Option<Explanation> {
     let set = Set::of(image)?;
-    let before = image.records.get(place.checked_sub(1)?)?.body;
-    let (rule, broken) = match image.records.get(place)?.body {
+    let record = image.record_at(refusal.offset)?;
+    let before = image.records.get(record.index.checked_sub(1)?)?.body;
+    let (rule, broken) = match record.body {
         Body::Id { start, length } => (
             "an ID has a length of at least 1, start + length below H, and a start above the end of the ID before",
             idle_faults(&set, before, start, length),
@@ -19,7 +21,7 @@ pub fn table_record(image: &Image, place: usize) -> Option<Explanation> {
         ),
         _ => return None,
     };
-    explained(at(image, place), rule, broken)
+    explained(at(image, refusal), rule, broken)
 }
 
 fn idle_faults(set: &Set, before: Body, start: u64, length: u64) -> Vec<Broken> {
@@ -124,14 +126,15 @@ fn right_before(set: &Set, image: &Image, told: &Replay) -> Option<String> {
     ))
 }
 
-pub fn without_effect(image: &Image, place: usize) -> Option<Explanation> {
+pub fn without_effect(image: &Image, refusal: Refusal) -> Option<Explanation> {
     let set = Set::of(image)?;
     let told = replay(&set, image);
     let useless = useless(image, &told);
-    if useless.first() != Some(&place) {
+    let record = image.record_at(refusal.offset)?;
+    if useless.first() != Some(&record.index) {
         return None;
     }
-    let reason = match image.records[place].body {
+    let reason = match record.body {
         Body::Id { start, .. } => idle_reason(&set, &told, start),
         Body::Pv { task, job, delay } => inversion_reason(&set, &told, task, job, delay)?,
         _ => return None,
@@ -141,7 +144,7 @@ pub fn without_effect(image: &Image, place: usize) -> Option<Explanation> {
     let text = format!("{reason}; {} too many{first}", many(count, "record"));
     let rule =
         "the tables are those of the timetable that they replay to: no record is without effect";
-    explained(at(image, place), rule, vec![by(count, text)])
+    explained(at(image, refusal), rule, vec![by(count, text)])
 }
 
 /// The indices of the ID and PV records that replay has no effect of.

@@ -1,33 +1,36 @@
 //! Refusals of timetables in words: 11 to 16.
 
+use crate::archive::Refusal;
 use crate::records::{Body, Image, Job, Set};
 use crate::wording::{at, by, explained, many, named, ticks, Broken, Explanation};
 
-pub fn entry(image: &Image, place: usize, number: u32) -> Option<Explanation> {
+pub fn entry(image: &Image, refusal: Refusal) -> Option<Explanation> {
+    let place = at(image, refusal);
     let set = Set::of(image)?;
-    let Body::Sl { task, start } = image.records.get(place)?.body else {
+    let record = image.record_at(refusal.offset)?;
+    let Body::Sl { task, start } = record.body else {
         return None;
     };
     let task = task as usize;
     let n = set.tasks.len();
-    if number == 11 {
+    if refusal.number == 11 {
         let above = (task + 1).checked_sub(n)? as u64;
         let text = format!("task {task}: the last one is task {}, {above} below", n - 1);
         let rule = "a task number is below n";
-        return explained(at(image, place), rule, vec![by(above, text)]);
+        return explained(place, rule, vec![by(above, text)]);
     }
     let job = Job {
         task,
-        job: image.job_numbers()[place],
+        job: image.job_numbers()[record.index],
         start,
     };
-    let (rule, broken) = match number {
+    let (rule, broken) = match refusal.number {
         12 => surplus(&set, job)?,
         13 => early(&set, job)?,
-        14 => overlapping(&set, image, place, job)?,
+        14 => overlapping(&set, image, record.index, job)?,
         _ => overdue(&set, job)?,
     };
-    explained(at(image, place), rule, vec![broken])
+    explained(place, rule, vec![broken])
 }
 
 type Judged = Option<(&'static str, Broken)>;
@@ -56,8 +59,8 @@ fn early(set: &Set, job: Job) -> Judged {
     Some(("no job starts before its release", by(before, text)))
 }
 
-fn overlapping(set: &Set, image: &Image, place: usize, job: Job) -> Judged {
-    let before = place.checked_sub(1)?;
+fn overlapping(set: &Set, image: &Image, index: usize, job: Job) -> Judged {
+    let before = index.checked_sub(1)?;
     let Body::Sl { task, start } = image.records.get(before)?.body else {
         return None;
     };

@@ -9,27 +9,30 @@ extern "C" {
         hyperperiod: *mut u32,
         jobs: *mut u32,
     ) -> u32;
-    fn hv_check_timetable(image: *const u8, len: usize, place: *mut u64) -> u32;
+    fn hv_check_timetable(image: *const u8, len: usize, told: *mut Where) -> u32;
     fn hv_derive(
         image: *const u8,
         len: usize,
         out: *mut u8,
         room: usize,
-        place: *mut u64,
+        told: *mut Where,
         length: *mut u64,
     ) -> u32;
-    fn hv_check_tables(image: *const u8, len: usize, place: *mut u64) -> u32;
+    fn hv_check_tables(image: *const u8, len: usize, told: *mut Where) -> u32;
     fn hv_rebuild(
         image: *const u8,
         len: usize,
         out: *mut u8,
         room: usize,
-        place: *mut u64,
+        told: *mut Where,
         length: *mut u64,
     ) -> u32;
 }
 
-type Turn = unsafe extern "C" fn(*const u8, usize, *mut u8, usize, *mut u64, *mut u64) -> u32;
+type Turn = unsafe extern "C" fn(*const u8, usize, *mut u8, usize, *mut Where, *mut u64) -> u32;
+
+/// A refusal's place, and the byte offset of the record that it names.
+type Where = [u64; 2];
 
 /// No accepted image is longer: TS, 16 TK, an ID and a PV for each of 4,096 jobs, EN.
 pub const LONGEST_ACCEPTED: usize = 5 + 16 * 18 + 4_096 * (8 + 9) + 6;
@@ -67,11 +70,24 @@ impl Kind {
     }
 }
 
-/// A refusal: its number and its place.
+/// A refusal of an image: its number, its place, and the byte at which the record begins, or would begin,
+/// that the place names; 0 where the place is no record.
 #[derive(Clone, Copy, PartialEq, Eq, Debug)]
 pub struct Refusal {
     pub number: u32,
-    pub place: u64,
+    pub place: usize,
+    pub offset: usize,
+}
+
+impl Refusal {
+    /// The byte of the record that the place names, where it names one: for 16 it is a task, for 18 a start,
+    /// for 8, 9 and 20 nothing.
+    pub fn byte(self) -> Option<usize> {
+        match self.number {
+            8 | 9 | 16 | 18 | 20 => None,
+            _ => Some(self.offset),
+        }
+    }
 }
 
 /// Plain checking of an image of this kind.
@@ -80,10 +96,10 @@ pub fn check(kind: Kind, image: &[u8]) -> Result<(), Refusal> {
         Kind::Timetable => hv_check_timetable,
         Kind::Tables => hv_check_tables,
     };
-    let mut place = 0;
-    // SAFETY: the image has as many bytes as is said; the place is this function's own.
-    let number = unsafe { function(image.as_ptr(), image.len(), &mut place) };
-    told(number, place)
+    let mut told = [0; 2];
+    // SAFETY: the image has as many bytes as is said; the two numbers are this function's own.
+    let number = unsafe { function(image.as_ptr(), image.len(), &mut told) };
+    verdict(number, told)
 }
 
 /// The table image of a timetable image.
@@ -96,8 +112,8 @@ pub fn rebuild(image: &[u8]) -> Result<Vec<u8>, Refusal> {
     turn(hv_rebuild, image)
 }
 
-/// The hyperperiod and the jobs a cycle of a good set of tasks, each O, C, T, D.
-pub fn judge_set(tasks: &[[u32; 4]]) -> Result<(u32, u32), Refusal> {
+/// The hyperperiod and the jobs a cycle of a set of tasks, each O, C, T, D; none where it is refused.
+pub fn judge_set(tasks: &[[u32; 4]]) -> Option<(u32, u32)> {
     let mut slots = [[0; 4]; SLOTS];
     for (slot, task) in slots.iter_mut().zip(tasks) {
         *slot = *task;
@@ -109,26 +125,31 @@ pub fn judge_set(tasks: &[[u32; 4]]) -> Result<(u32, u32), Refusal> {
         let numbers = slots.as_ptr().cast();
         hv_judge_set(n, numbers, &mut place, &mut hyperperiod, &mut jobs)
     };
-    told(number, place).map(|()| (hyperperiod, jobs))
+    (number == 0).then_some((hyperperiod, jobs))
 }
 
 fn turn(function: Turn, image: &[u8]) -> Result<Vec<u8>, Refusal> {
     let mut out = vec![0; LONGEST_ACCEPTED];
-    let (mut place, mut length) = (0, 0);
+    let (mut told, mut length) = ([0; 2], 0);
     // SAFETY: image and output have as many bytes as is said, and no two regions overlap.
     let number = unsafe {
         let (room, to) = (out.len(), out.as_mut_ptr());
         let (image, len) = (image.as_ptr(), image.len());
-        function(image, len, to, room, &mut place, &mut length)
+        function(image, len, to, room, &mut told, &mut length)
     };
-    told(number, place)?;
+    verdict(number, told)?;
     out.truncate(length as usize);
     Ok(out)
 }
 
-fn told(number: u32, place: u64) -> Result<(), Refusal> {
+fn verdict(number: u32, told: Where) -> Result<(), Refusal> {
+    let [place, offset] = told.map(|told| told as usize);
     match number {
         0 => Ok(()),
-        number => Err(Refusal { number, place }),
+        number => Err(Refusal {
+            number,
+            place,
+            offset,
+        }),
     }
 }

@@ -1,5 +1,5 @@
-//! What a refusal means: for the number and the place that the archive gave, what stands at the place, what
-//! the rule says, and by how much it is broken. The rules themselves are in the modules `about_*`.
+//! What a refusal means: for the number, the place and the byte that the archive gave, what stands there,
+//! what the rule says, and by how much it is broken. The rules themselves are in the modules `about_*`.
 
 use crate::about_framing::{cut, end, head, stranger};
 use crate::about_sets::{cycle, task};
@@ -15,19 +15,18 @@ pub const LONGEST_LISTED: usize = 65_536;
 /// What a refusal of these bytes means.
 pub fn explain(bytes: &[u8], kind: Kind, refusal: Refusal) -> Explanation {
     let image = decode(bytes);
-    let place = refusal.place as usize;
     let found = match refusal.number {
-        1 => Some(cut(&image, kind, place)),
-        2 => Some(stranger(&image, kind, place)),
-        3..=5 => head(&image, kind, refusal.number),
-        6 | 7 => task(&image, place, refusal.number),
+        1 => Some(cut(&image, kind, refusal)),
+        2 => Some(stranger(&image, kind, refusal)),
+        3..=5 => head(&image, kind, refusal),
+        6 | 7 => task(&image, refusal),
         8 | 9 => cycle(&image, refusal.number),
-        10 => end(&image, place),
-        11..=15 => entry(&image, place, refusal.number),
-        16 => missing(&image, place),
-        17 => table_record(&image, place),
-        18 => late(&image, place),
-        19 => without_effect(&image, place),
+        10 => end(&image, refusal),
+        11..=15 => entry(&image, refusal),
+        16 => missing(&image, refusal.place),
+        17 => table_record(&image, refusal),
+        18 => late(&image, refusal.place),
+        19 => without_effect(&image, refusal),
         20 => Some(too_long()),
         _ => None,
     };
@@ -37,7 +36,10 @@ pub fn explain(bytes: &[u8], kind: Kind, refusal: Refusal) -> Explanation {
 /// Stands in where the archive's answer does not fit what was decoded; the tests never see it.
 fn unknown(refusal: Refusal) -> Explanation {
     Explanation {
-        place: format!("{}, which cannot be decoded", refusal.place),
+        place: format!(
+            "{}, at byte {}, which cannot be decoded",
+            refusal.place, refusal.offset
+        ),
         rule: format!("number {}", refusal.number),
         broken: Vec::new(),
         before: None,

@@ -13,6 +13,7 @@ mod list;
 mod messages;
 mod records;
 mod replay;
+mod rows;
 mod show;
 mod why;
 mod wording;
@@ -273,6 +274,7 @@ fn list(order: &Order) -> Result<Told, String> {
     let too_long = Refusal {
         number: 20,
         place: 0,
+        offset: 0,
     };
     let (bytes, asked, made) = match files::read(&order.files[0], LONGEST_LISTED)? {
         Content::TooLong => (Vec::new(), as_kind(Kind::Tables), Err(too_long)),

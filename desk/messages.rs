@@ -1,8 +1,9 @@
-//! Verdicts as a person wants them, and document 01's lines for them.
+//! Verdicts as a person wants them, and the documents' lines for them.
 
 use crate::archive::{derive, Kind, Refusal};
 use crate::explain::explain;
 use crate::records::{decode, Set};
+use crate::rows::rows;
 use crate::wording::{many, ticks};
 
 /// The kind that an image is asked as, and whether the file or the user named it.
@@ -12,7 +13,7 @@ pub struct Asked {
     pub named: bool,
 }
 
-/// Document 01's line for a verdict.
+/// The documents' line for a verdict.
 pub fn plain(bytes: &[u8], verdict: Result<(), Refusal>) -> String {
     match verdict {
         Ok(()) => format!("ok {}\n", Set::of_accepted(&decode(bytes)).jobs),
@@ -21,7 +22,10 @@ pub fn plain(bytes: &[u8], verdict: Result<(), Refusal>) -> String {
 }
 
 pub fn refused_line(refusal: Refusal) -> String {
-    format!("refused {} {}", refusal.number, refusal.place)
+    format!(
+        "refused {} {} {}",
+        refusal.number, refusal.place, refusal.offset
+    )
 }
 
 /// A verdict on a named image, in words.
@@ -61,10 +65,11 @@ pub fn summary(kind: Kind, bytes: &[u8]) -> String {
 /// The lines below a refusal's own.
 pub fn explanation(bytes: &[u8], asked: Asked, refusal: Refusal) -> String {
     let told = explain(bytes, asked.kind, refusal);
-    let mut lines = vec![
-        format!("  place   {}", told.place),
-        format!("  rule    {}", told.rule),
-    ];
+    let mut lines = vec![format!("  place   {}", told.place)];
+    let rows = refusal.byte().map(|byte| rows(bytes, byte));
+    let rows = rows.iter().flatten();
+    lines.extend(rows.map(|row| format!("  bytes   {row}")));
+    lines.push(format!("  rule    {}", told.rule));
     let broken = told.broken.iter();
     lines.extend(broken.map(|broken| format!("  broken  {}", broken.text)));
     lines.extend(told.before.map(|before| format!("  before  {before}")));

@@ -106,16 +106,22 @@ pub enum Fault {
 
 /// The bytes behind the last whole record.
 pub struct Rest<'a> {
-    pub index: usize,
     pub offset: usize,
     pub bytes: &'a [u8],
     pub fault: Fault,
 }
 
 pub struct Image<'a> {
-    pub bytes: &'a [u8],
     pub records: Vec<Record<'a>>,
     pub rest: Option<Rest<'a>>,
+}
+
+/// What begins at a byte of an image.
+pub enum Standing<'a> {
+    Record(&'a Record<'a>),
+    Rest(&'a Rest<'a>),
+    /// The file ends there.
+    Nothing,
 }
 
 /// The records of an image up to EN, or to the first bytes that are no record.
@@ -136,16 +142,11 @@ pub fn decode(bytes: &[u8]) -> Image<'_> {
         }
     };
     let rest = (offset < bytes.len()).then(|| Rest {
-        index: records.len(),
         offset,
         bytes: &bytes[offset..],
         fault,
     });
-    Image {
-        bytes,
-        records,
-        rest,
-    }
+    Image { records, rest }
 }
 
 /// The form of the whole record at the front of some bytes.
@@ -221,6 +222,19 @@ pub fn kind_of(bytes: &[u8]) -> Option<Kind> {
 }
 
 impl Image<'_> {
+    /// The record that begins at a byte.
+    pub fn record_at(&self, byte: usize) -> Option<&Record<'_>> {
+        self.records.iter().find(|record| record.offset == byte)
+    }
+
+    pub fn standing_at(&self, byte: usize) -> Standing<'_> {
+        match (self.record_at(byte), &self.rest) {
+            (Some(record), _) => Standing::Record(record),
+            (_, Some(rest)) if rest.offset == byte => Standing::Rest(rest),
+            _ => Standing::Nothing,
+        }
+    }
+
     /// The tasks of the TK records behind TS.
     pub fn tasks(&self) -> Vec<Task> {
         let behind = self.records.iter().skip(1);
@@ -295,7 +309,7 @@ impl Set {
             .iter()
             .map(|t| [t.offset, t.time, t.period, t.deadline].map(|value| value as u32))
             .collect();
-        let (hyperperiod, jobs) = judge_set(&numbers).ok()?;
+        let (hyperperiod, jobs) = judge_set(&numbers)?;
         Some(Set {
             tasks,
             hyperperiod: hyperperiod.into(),

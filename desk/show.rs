@@ -1,50 +1,38 @@
-//! The hex dump of an image, a line a record: its index, its place, its bytes by fields and their meaning.
+//! The hex dump of an image, a line a record: its index, its byte, its bytes by fields and their meaning.
 
 use crate::archive::{Kind, Refusal};
-use crate::records::{decode, Body, Fault, Image, Record, Rest, Set};
+use crate::records::{decode, Body, Fault, Record, Rest, Set};
 use crate::wording::many;
 
 /// As wide as the longest record's hex, that of a TK.
 const HEX: usize = 41;
 const REST_A_LINE: usize = 12;
 
-/// The dump of an image, the record that a refusal is about marked with `>`.
+/// The dump of an image, the line at the byte that a refusal is about marked with `>`.
 pub fn dump(bytes: &[u8], refusal: Option<Refusal>) -> String {
     let image = decode(bytes);
     let set = Set::of(&image);
     let numbers = image.job_numbers();
-    let marked = refusal.and_then(record_at_fault);
-    let hex = "bytes";
-    let mut text = format!("  record    byte  {hex:HEX$}  meaning\n");
+    let marked = refusal.and_then(Refusal::byte);
+    let sign = |byte: usize| if marked == Some(byte) { '>' } else { ' ' };
+    let mut text = format!("  record    byte      hex  {:HEX$}  meaning\n", "bytes");
     for record in &image.records {
-        let sign = sign(marked, record.index);
+        let (index, byte) = (record.index.to_string(), record.offset);
         let meaning = meaning(record, set.as_ref(), numbers[record.index]);
-        let hex = hex_by_fields(record);
-        let (index, offset) = (record.index, record.offset);
-        text += &format!("{sign} {index:6}  {offset:6}  {hex:HEX$}  {meaning}\n");
+        text += &line(sign(byte), &index, byte, &hex_by_fields(record), &meaning);
     }
     if let Some(rest) = &image.rest {
-        text += &rest_lines(rest, sign(marked, rest.index));
-    } else if marked == Some(image.records.len()) {
-        text += &nothing_line(&image);
+        text += &rest_lines(rest, sign(rest.offset));
+    } else if marked == Some(bytes.len()) {
+        let index = image.records.len().to_string();
+        text += &line('>', &index, bytes.len(), "", "nothing, the file ends");
     }
     text
 }
 
-/// The index of the record that a refusal's place names, where it names a record.
-fn record_at_fault(refusal: Refusal) -> Option<usize> {
-    match refusal.number {
-        8 | 9 | 16 | 18 | 20 => None,
-        _ => Some(refusal.place as usize),
-    }
-}
-
-fn sign(marked: Option<usize>, index: usize) -> char {
-    if marked == Some(index) {
-        '>'
-    } else {
-        ' '
-    }
+fn line(sign: char, index: &str, byte: usize, hex: &str, meaning: &str) -> String {
+    let line = format!("{sign} {index:>6}  {byte:6}  {byte:#7X}  {hex:HEX$}  {meaning}");
+    line.trim_end().to_string() + "\n"
 }
 
 fn hex_by_fields(record: &Record) -> String {
@@ -89,22 +77,14 @@ fn rest_lines(rest: &Rest, sign: char) -> String {
         Fault::BehindEnd => format!("{length} behind EN"),
     };
     let mut text = String::new();
-    for (line, bytes) in rest.bytes.chunks(REST_A_LINE).enumerate() {
-        let offset = rest.offset + line * REST_A_LINE;
+    for (number, bytes) in rest.bytes.chunks(REST_A_LINE).enumerate() {
+        let byte = rest.offset + number * REST_A_LINE;
         let hex: Vec<String> = bytes.iter().map(|byte| format!("{byte:02X}")).collect();
         let hex = hex.join(" ");
-        text += &match line {
-            0 => format!("{sign} {:>6}  {offset:6}  {hex:HEX$}  {fault}\n", "-"),
-            _ => format!("  {:6}  {offset:6}  {hex}\n", ""),
+        text += &match number {
+            0 => line(sign, "-", byte, &hex, &fault),
+            _ => line(' ', "", byte, &hex, ""),
         };
     }
     text
-}
-
-fn nothing_line(image: &Image) -> String {
-    let (index, offset) = (image.records.len(), image.bytes.len());
-    format!(
-        "> {index:6}  {offset:6}  {:HEX$}  nothing, the file ends\n",
-        ""
-    )
 }

@@ -1,6 +1,7 @@
 //! What explanations are put together from: a broken rule, what stands at a place, counts with their nouns.
 
-use crate::records::{Image, Job, Record};
+use crate::archive::Refusal;
+use crate::records::{Image, Job, Record, Standing};
 
 /// One way in which a rule is broken, and by how much where that is a number.
 pub struct Broken {
@@ -35,27 +36,22 @@ pub fn otherwise(text: String) -> Broken {
     Broken { text, by: None }
 }
 
-/// What stands at a record's place.
-pub fn at(image: &Image, place: usize) -> String {
-    if let Some(record) = image.records.get(place) {
-        return record_at(record);
-    }
-    match &image.rest {
-        Some(rest) => format!(
-            "record {place}, at byte {}: {}",
-            rest.offset,
-            rest_text(rest.bytes)
-        ),
-        None => format!(
-            "record {place}, at byte {}: nothing, the file ends here",
-            image.bytes.len()
-        ),
-    }
+/// A refusal's place that is a record, with the archive's byte for it and what stands there.
+pub fn at(image: &Image, refusal: Refusal) -> String {
+    let text = match image.standing_at(refusal.offset) {
+        Standing::Record(record) => record.text(),
+        Standing::Rest(rest) => rest_text(rest.bytes),
+        Standing::Nothing => "nothing, the file ends here".to_string(),
+    };
+    place(refusal.place, refusal.offset, &text)
 }
 
 pub fn record_at(record: &Record) -> String {
-    let Record { index, offset, .. } = record;
-    format!("record {index}, at byte {offset}: {}", record.text())
+    place(record.index, record.offset, &record.text())
+}
+
+fn place(index: usize, byte: usize, text: &str) -> String {
+    format!("record {index}, at byte {byte} ({byte:#X}): {text}")
 }
 
 /// Some bytes that are no record, the first of them in hex.

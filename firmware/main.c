@@ -35,9 +35,9 @@ static uint64_t work(uint64_t began, uint32_t declared)
 
 void run(void)
 {
-    uint64_t place, length = (uint64_t)(image_end - image);
-    uint32_t number = hv_begin(&dispatcher, image, length, start, &place);
-    if (number != 0) end_run("image refused", (uint64_t[]){number, place}, 2);
+    uint64_t where[2], length = (uint64_t)(image_end - image);
+    uint32_t number = hv_begin(&dispatcher, image, length, start, where);
+    if (number != 0) end_run("image refused", (uint64_t[]){number, where[0], where[1]}, 3);
     start_clock();
     while (start[2] < 3) {
         uint32_t declared = dispatcher.tasks[start[0]][1];

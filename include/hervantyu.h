@@ -1,8 +1,9 @@
 /* Hervantyu: schedule images judged, derived, rebuilt and dispatched from, for the far end of the cable.
  *
- * Every function returns the number of the refusal, 0 where nothing is refused, and stores the refusal's place in *place (0 where nothing is refused; going
- * on stores no place, it would be 0). On a refusal every other number and every byte that was lent stays as it was, but for a dispatcher's record, which is
- * then what hv_begin and hv_go_on say below.
+ * Every function returns the number of the refusal, 0 where nothing is refused. A function that judges an image stores in where[0] the refusal's place and in
+ * where[1] the byte offset, in that image, of the record that the place names; both are 0 where nothing is refused. hv_judge_set stores the place alone, in
+ * *place: a set in memory has no bytes. hv_go_on stores neither, both would be 0. On a refusal every other number and every byte that was lent stays as it
+ * was, but for a dispatcher's record, which is then what hv_begin and hv_go_on say below.
  *
  * What the caller sees to, and no call tests: no pointer is null, also where a length is 0; numbers are aligned as C aligns them (images may begin at any
  * byte); a length is that of the memory behind its pointer; no two regions that are lent to one call overlap, so an image cannot be turned into its other
@@ -31,6 +32,8 @@
  *   21 to 25            going on from a dispatcher's state, see hv_go_on
  * A place is the index of the record at fault, from 0 (TS is 0, the TK of task i is 1 + i); for 8, 9 and 20 it is 0, for 16 the lowest task number with a
  * job missing, for 18 the index of the late job among the starts, from 0.
+ * A byte offset is that of the record's first byte, from 0: for 1 it is where the record starts or would start, which may be the byte behind the last one. For
+ * 8, 9, 16, 18 and 20, whose place is no record of the image, it is 0.
  */
 #ifndef HERVANTYU_H
 #define HERVANTYU_H
@@ -52,20 +55,20 @@ uint32_t hv_judge_set(uint32_t n, const uint32_t tasks[HV_LENT(64)], uint64_t *H
                       uint32_t *HV_RESTRICT jobs);
 
 /* Checks a timetable image: accepted exactly when it is the image of a good set and a valid timetable. Gives 1 to 16. */
-uint32_t hv_check_timetable(const uint8_t *HV_RESTRICT image, uint64_t len, uint64_t *HV_RESTRICT place);
+uint32_t hv_check_timetable(const uint8_t *HV_RESTRICT image, uint64_t len, uint64_t where[HV_LENT(2)]);
 
 /* Derives: turns a timetable image into its table image. Gives 1 to 16 as checking does, then 20. Where nothing is refused the table image fills the front of
  * out, *length is its length, and the bytes of out behind it keep their values. 11 + 18 * n + 17 * jobs bytes are always enough. */
-uint32_t hv_derive(const uint8_t *HV_RESTRICT image, uint64_t len, uint8_t *HV_RESTRICT out, uint64_t room, uint64_t *HV_RESTRICT place,
+uint32_t hv_derive(const uint8_t *HV_RESTRICT image, uint64_t len, uint8_t *HV_RESTRICT out, uint64_t room, uint64_t where[HV_LENT(2)],
                    uint64_t *HV_RESTRICT length);
 
 /* Checks a table image: accepted exactly when it is the image of a good set and of the tables that a valid timetable of it has. Gives 1 to 10, 17, 18, 19. */
-uint32_t hv_check_tables(const uint8_t *HV_RESTRICT image, uint64_t len, uint64_t *HV_RESTRICT place);
+uint32_t hv_check_tables(const uint8_t *HV_RESTRICT image, uint64_t len, uint64_t where[HV_LENT(2)]);
 
 /* Rebuilds: turns a table image into the image of the one valid timetable that has these tables. Gives 1 to 10, 17, 18, 19 as checking tables does, then 20.
  * Where nothing is refused the timetable image fills the front of out, *length is its length, and the bytes of out behind it keep their values. It has
  * 11 + 18 * n + 7 * jobs bytes. */
-uint32_t hv_rebuild(const uint8_t *HV_RESTRICT image, uint64_t len, uint8_t *HV_RESTRICT out, uint64_t room, uint64_t *HV_RESTRICT place,
+uint32_t hv_rebuild(const uint8_t *HV_RESTRICT image, uint64_t len, uint8_t *HV_RESTRICT out, uint64_t room, uint64_t where[HV_LENT(2)],
                     uint64_t *HV_RESTRICT length);
 
 /* The state of a dispatcher: one record, kept by the drive's main loop and changed in place by every call. The stopped state has every number 0. Slots from n
@@ -91,10 +94,10 @@ _Static_assert(sizeof(struct hv_dispatcher) == HV_DISPATCHER_NUMBERS * sizeof(ui
 #endif
 
 /* Begins: checks a table image as hv_check_tables does, and answers its first start: task, job, cycle (0), absolute time. Gives 1 to 10, 17, 18, 19 with the
- * places that checking has. What *d held before changes nothing, it need not be set. On a refusal *d is stopped and start keeps its numbers: to try a new
- * image while another one runs, begin with a second record. */
+ * places and offsets that checking has. What *d held before changes nothing, it need not be set. On a refusal *d is stopped and start keeps its numbers: to
+ * try a new image while another one runs, begin with a second record. */
 uint32_t hv_begin(struct hv_dispatcher *HV_RESTRICT d, const uint8_t *HV_RESTRICT image, uint64_t len, uint64_t start[HV_LENT(4)],
-                  uint64_t *HV_RESTRICT place);
+                  uint64_t where[HV_LENT(2)]);
 
 /* Goes on: the running job has ended at the absolute time end; answers the next start: task, job, cycle, absolute time, which is cycle * H + the time in the
  * cycle. The job is to start at that time, not when the call returns: the processor is taken for the whole declared time, whatever end is reported within it.

@@ -11,22 +11,22 @@ extern "C" {
         hyperperiod: *mut u32,
         jobs: *mut u32,
     ) -> u32;
-    pub fn hv_check_timetable(image: *const u8, len: usize, place: *mut u64) -> u32;
+    pub fn hv_check_timetable(image: *const u8, len: usize, location: *mut u64) -> u32;
     pub fn hv_derive(
         image: *const u8,
         len: usize,
         out: *mut u8,
         room: usize,
-        place: *mut u64,
+        location: *mut u64,
         length: *mut u64,
     ) -> u32;
-    pub fn hv_check_tables(image: *const u8, len: usize, place: *mut u64) -> u32;
+    pub fn hv_check_tables(image: *const u8, len: usize, location: *mut u64) -> u32;
     pub fn hv_rebuild(
         image: *const u8,
         len: usize,
         out: *mut u8,
         room: usize,
-        place: *mut u64,
+        location: *mut u64,
         length: *mut u64,
     ) -> u32;
     pub fn hv_begin(
@@ -34,7 +34,7 @@ extern "C" {
         image: *const u8,
         len: usize,
         start: *mut u64,
-        place: *mut u64,
+        location: *mut u64,
     ) -> u32;
     pub fn hv_go_on(
         state: *mut u32,
@@ -68,11 +68,28 @@ pub const NOW: usize = RUNNING + 3;
 pub const AT_START: usize = NOW + 1 + SLOTS;
 pub const NUMBERS: usize = AT_START + 1 + SLOTS;
 
+/// The refusal of an image, with the byte at which the record begins that its place names.
 #[derive(Clone, Copy, PartialEq, Eq, Debug)]
 pub struct Refusal {
     pub number: u32,
     pub place: u64,
+    pub offset: u64,
 }
+
+impl Refusal {
+    /// A refusal whose place is 0 and names no record.
+    pub fn of_no_record(number: u32) -> Refusal {
+        let (place, offset) = (0, 0);
+        Refusal {
+            number,
+            place,
+            offset,
+        }
+    }
+}
+
+/// The hyperperiod and the jobs of a good set, or the number and the place of its refusal.
+pub type Judged = Result<(u32, u32), (u32, u64)>;
 
 /// A dispatcher's state.
 pub type State = [u32; NUMBERS];
@@ -85,8 +102,8 @@ pub type Step = (State, Result<Start, Refusal>);
 
 // ---- The calls ----
 
-/// The hyperperiod and the jobs of a good set; a slot below n that is not given is 0.
-pub fn judge_set(case: &dyn Display, n: u32, tasks: &[[u32; 4]]) -> Result<(u32, u32), Refusal> {
+/// Judges a set in memory; a slot below n that is not given is 0.
+pub fn judge_set(case: &dyn Display, n: u32, tasks: &[[u32; 4]]) -> Judged {
     twice(case, |filling| {
         let mut tasks = Lent::new(&slots(n, tasks, filling), filling);
         let mut place = Lent::<u64>::filled(1, filling);
@@ -101,8 +118,10 @@ pub fn judge_set(case: &dyn Display, n: u32, tasks: &[[u32; 4]]) -> Result<(u32,
         tasks.demand_kept(0, case, "the tasks");
         hyperperiod.demand_kept(stored, case, "the hyperperiod");
         jobs.demand_kept(stored, case, "the jobs");
-        answer(number, &place, case)?;
-        Ok((hyperperiod.content()[0], jobs.content()[0]))
+        match located(number, &place, case) {
+            [_] if number == 0 => Ok((hyperperiod.content()[0], jobs.content()[0])),
+            [place] => Err((number, place)),
+        }
     })
 }
 
@@ -132,19 +151,19 @@ pub fn begin(case: &dyn Display, image: &[u8]) -> Step {
         let mut state = Lent::<u32>::filled(NUMBERS, filling);
         let mut lent = Lent::new(image, filling);
         let mut start = Lent::<u64>::filled(4, filling);
-        let mut place = Lent::<u64>::filled(1, filling);
+        let mut location = Lent::<u64>::filled(2, filling);
         // SAFETY: every pointer is to as much as the header asks for, and none overlap.
         let number = unsafe {
-            let (s, p) = (start.pointer(), place.pointer());
-            hv_begin(state.pointer(), lent.pointer(), image.len(), s, p)
+            let (s, l) = (start.pointer(), location.pointer());
+            hv_begin(state.pointer(), lent.pointer(), image.len(), s, l)
         };
         lent.demand_kept(0, case, "the image");
-        let told = answer(number, &place, case);
+        let told = answer(number, &location, case);
         step(case, &state, &start, told)
     })
 }
 
-/// Goes on from a state, with the reported end; a refusal has place 0.
+/// Goes on from a state, with the reported end; a refusal names no record.
 pub fn go_on(case: &dyn Display, image: &[u8], before: &State, end: u64) -> Step {
     twice(case, |filling| {
         let mut state = Lent::new(before, filling);
@@ -158,7 +177,7 @@ pub fn go_on(case: &dyn Display, image: &[u8], before: &State, end: u64) -> Step
         lent.demand_kept(0, case, "the image");
         let told = match number {
             0 => Ok(()),
-            number => Err(Refusal { number, place: 0 }),
+            number => Err(Refusal::of_no_record(number)),
         };
         step(case, &state, &start, told)
     })
@@ -182,11 +201,11 @@ fn step(
 fn check(case: &dyn Display, function: Check, image: &[u8]) -> Result<(), Refusal> {
     twice(case, |filling| {
         let mut lent = Lent::new(image, filling);
-        let mut place = Lent::<u64>::filled(1, filling);
+        let mut location = Lent::<u64>::filled(2, filling);
         // SAFETY: the image has as many bytes as is said, and the two regions do not overlap.
-        let number = unsafe { function(lent.pointer(), image.len(), place.pointer()) };
+        let number = unsafe { function(lent.pointer(), image.len(), location.pointer()) };
         lent.demand_kept(0, case, "the image");
-        answer(number, &place, case)
+        answer(number, &location, case)
     })
 }
 
@@ -194,19 +213,19 @@ fn turn(case: &dyn Display, function: Turn, room: usize, image: &[u8]) -> Result
     twice(case, |filling| {
         let mut lent = Lent::new(image, filling);
         let mut out = Lent::<u8>::filled(room, filling);
-        let mut place = Lent::<u64>::filled(1, filling);
+        let mut location = Lent::<u64>::filled(2, filling);
         let mut length = Lent::<u64>::filled(1, filling);
         // SAFETY: image and output have as many bytes as is said, and no two regions overlap.
         let number = unsafe {
-            let (p, l) = (place.pointer(), length.pointer());
-            function(lent.pointer(), image.len(), out.pointer(), room, p, l)
+            let (at, l) = (location.pointer(), length.pointer());
+            function(lent.pointer(), image.len(), out.pointer(), room, at, l)
         };
         lent.demand_kept(0, case, "the image");
         length.demand_kept(usize::from(number == 0), case, "the length");
         let written = if number == 0 { length.content()[0] } else { 0 };
         demand(written <= room as u64, case, "the length is above the room");
         out.demand_kept(written as usize, case, "the output");
-        answer(number, &place, case)?;
+        answer(number, &location, case)?;
         Ok(out.content()[..written as usize].to_vec())
     })
 }
@@ -219,19 +238,28 @@ fn slots(n: u32, tasks: &[[u32; 4]], filling: u8) -> Vec<u32> {
     numbers
 }
 
-/// What the returned number and the stored place say: without a refusal the place is 0.
-fn answer(number: u32, place: &Lent<u64>, case: &dyn Display) -> Result<(), Refusal> {
-    place.demand_kept(1, case, "the place");
-    let place = place.content()[0];
-    if number != 0 {
-        return Err(Refusal { number, place });
+/// What the returned number and the stored place and offset say of an image.
+fn answer(number: u32, location: &Lent<u64>, case: &dyn Display) -> Result<(), Refusal> {
+    match located(number, location, case) {
+        [_, _] if number == 0 => Ok(()),
+        [place, offset] => Err(Refusal {
+            number,
+            place,
+            offset,
+        }),
     }
+}
+
+/// The numbers that a call stored to say where a refusal is; without a refusal all are 0.
+fn located<const N: usize>(number: u32, location: &Lent<u64>, case: &dyn Display) -> [u64; N] {
+    location.demand_kept(N, case, "where the refusal is");
+    let numbers = location.content().try_into().expect("as many as were lent");
     demand(
-        place == 0,
+        number != 0 || numbers == [0; N],
         case,
-        "nothing is refused, but the place is not 0",
+        "nothing is refused, but its place or offset is not 0",
     );
-    Ok(())
+    numbers
 }
 
 /// The answer of a call that is made twice, over opposite fillings, and has to be the same.

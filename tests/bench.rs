@@ -204,22 +204,23 @@ const TABLES: Sides = Sides {
 
 impl Sides {
     fn check(&self, image: &[u8]) -> Result<(), Refusal> {
-        let mut place = 0;
+        let mut location = [0; 2];
+        let at = location.as_mut_ptr();
         // SAFETY: the image has as many bytes as is said, and the two regions do not overlap.
-        match unsafe { (self.archive_check)(image.as_ptr(), image.len(), &mut place) } {
+        match unsafe { (self.archive_check)(image.as_ptr(), image.len(), at) } {
             0 => Ok(()),
-            number => Err(Refusal { number, place }),
+            number => Err(refusal(number, location)),
         }
     }
 
     fn turn(&self, image: &[u8], out: &mut [u8]) -> Result<usize, Refusal> {
-        let (mut place, mut length) = (0, 0);
-        let (from, to) = (image.as_ptr(), out.as_mut_ptr());
+        let (mut location, mut length) = ([0; 2], 0);
+        let (from, to, at) = (image.as_ptr(), out.as_mut_ptr(), location.as_mut_ptr());
         let (len, room) = (image.len(), out.len());
         // SAFETY: image and output have as many bytes as is said, and no two regions overlap.
-        match unsafe { (self.archive_turn)(from, len, to, room, &mut place, &mut length) } {
+        match unsafe { (self.archive_turn)(from, len, to, room, at, &mut length) } {
             0 => Ok(length as usize),
-            number => Err(Refusal { number, place }),
+            number => Err(refusal(number, location)),
         }
     }
 
@@ -242,6 +243,15 @@ impl Sides {
     }
 }
 
+/// What the archive told of a refusal.
+fn refusal(number: u32, [place, offset]: [u64; 2]) -> Refusal {
+    Refusal {
+        number,
+        place,
+        offset,
+    }
+}
+
 /// Demands that all sides answer the same, bytes included, and gives back the answer.
 fn same(sides: &Sides, image: &[u8], room: usize) -> Result<Vec<u8>, Refusal> {
     let (mut one, mut other) = (vec![0x5A; room], vec![0x5A; room]);
@@ -260,11 +270,8 @@ fn same(sides: &Sides, image: &[u8], room: usize) -> Result<Vec<u8>, Refusal> {
 fn same_answers(sides: &Sides, image: &[u8]) -> Vec<u8> {
     let result = same(sides, image, ROOM).expect("the image is good");
     assert_eq!(same(sides, image, result.len()).as_ref(), Ok(&result));
-    let refusal = Refusal {
-        number: 20,
-        place: 0,
-    };
-    assert_eq!(same(sides, image, result.len() - 1), Err(refusal));
+    let short = same(sides, image, result.len() - 1);
+    assert_eq!(short, Err(refusal(20, [0, 0])));
     result
 }
 
@@ -296,12 +303,13 @@ fn irregularities(tables: &[u8], n: usize) -> (usize, usize) {
 type GoOn = fn(&mut State, &[u8], u64) -> Result<Start, u32>;
 
 fn archive_begin(state: &mut State, image: &[u8]) -> Result<Start, Refusal> {
-    let (mut start, mut place) = ([0; 4], 0);
+    let (mut start, mut location) = ([0; 4], [0; 2]);
     let (d, s) = (state.as_mut_ptr(), start.as_mut_ptr());
+    let at = location.as_mut_ptr();
     // SAFETY: every pointer is to as much as the header asks for, and none overlap.
-    match unsafe { archive::hv_begin(d, image.as_ptr(), image.len(), s, &mut place) } {
+    match unsafe { archive::hv_begin(d, image.as_ptr(), image.len(), s, at) } {
         0 => Ok(start),
-        number => Err(Refusal { number, place }),
+        number => Err(refusal(number, location)),
     }
 }
 

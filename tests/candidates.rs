@@ -10,9 +10,9 @@ mod chance;
 mod judges;
 mod periods;
 
-use archive::{Refusal, SLOTS};
+use archive::{Judged, SLOTS};
 use chance::Chance;
-use judges::{by_factors, by_multiples, judge, Judged, Task};
+use judges::{by_factors, by_multiples, judge, Task};
 use periods::{logarithm, of_one_cycle};
 use std::hint::black_box;
 use std::time::Instant;
@@ -195,7 +195,6 @@ fn agree() {
     let mut ask = |n: u32, tasks: &[Task]| {
         let case = format!("set {n} {tasks:?}");
         let answer = archive::judge_set(&case, n, tasks);
-        let answer = answer.map_err(|Refusal { number, place }| (number, place));
         for way in [by_multiples, by_factors] {
             assert_eq!(answer, judge(n, tasks, way), "{case}");
         }

@@ -9,6 +9,7 @@ pub mod unlimited;
 pub struct Refusal {
     pub number: u32,
     pub place: u64,
+    pub offset: u64,
 }
 
 const SLOTS: usize = 16;
@@ -60,7 +61,7 @@ pub fn rebuild(image: &[u8], out: &mut [u8]) -> Result<usize, Refusal> {
     let front = TS + TK * tables.jobs.n;
     let length = front + SL * tables.jobs.all + EN;
     let Some(out) = out.get_mut(..length) else {
-        return refuse(20, 0);
+        return refuse(20, no_record(0));
     };
     let (sls, en) = out[front..].split_at_mut(SL * tables.jobs.all);
     put_en(en, 1 + tables.jobs.n + tables.jobs.all);
@@ -76,28 +77,69 @@ pub fn rebuild(image: &[u8], out: &mut [u8]) -> Result<usize, Refusal> {
 }
 
 #[cold]
-fn refuse<T>(number: u32, place: usize) -> Result<T, Refusal> {
-    let place = place as u64;
-    Err(Refusal { number, place })
+fn refuse<T>(number: u32, at: At) -> Result<T, Refusal> {
+    Err(Refusal {
+        number,
+        place: at.place as u64,
+        offset: at.offset as u64,
+    })
+}
+
+/// Where a refusal is: the index of a record, and the byte at which it begins or would begin.
+#[derive(Clone, Copy)]
+struct At {
+    place: usize,
+    offset: usize,
+}
+
+impl At {
+    /// The record behind so many of this length, of which this one is the first. Not inlined: loops
+    /// over records would count bytes beside records.
+    #[inline(never)]
+    fn behind(self, count: usize, length: usize) -> At {
+        At {
+            place: self.place + count,
+            offset: self.offset + count * length,
+        }
+    }
+}
+
+/// A place that is no record's.
+fn no_record(place: usize) -> At {
+    At { place, offset: 0 }
+}
+
+/// The TS record.
+const HEAD: At = At {
+    place: 0,
+    offset: 0,
+};
+
+/// The TK record of a task; for n the record behind the last of them.
+fn at_task(i: usize) -> At {
+    At {
+        place: 1 + i,
+        offset: TS + TK * i,
+    }
 }
 
 // ---- Framing ----
 
 /// The TK records of an image and the bytes behind them: numbers 1 to 5.
 fn head(image: &[u8], kind: u8) -> Result<(&[u8], &[u8]), Refusal> {
-    let (ts, mut rest) = record::<TS>(image, b"TS", 0)?;
+    let (ts, mut rest) = record::<TS>(image, b"TS", HEAD)?;
     if ts[2] != 1 {
-        return refuse(3, 0);
+        return refuse(3, HEAD);
     }
     if ts[3] != kind {
-        return refuse(4, 0);
+        return refuse(4, HEAD);
     }
     let n = usize::from(ts[4]);
     if n < 1 || n > SLOTS {
-        return refuse(5, 0);
+        return refuse(5, HEAD);
     }
-    for index in 1..=n {
-        (_, rest) = record::<TK>(rest, b"TK", index)?;
+    for i in 0..n {
+        (_, rest) = record::<TK>(rest, b"TK", at_task(i))?;
     }
     Ok((&image[TS..TS + TK * n], rest))
 }
@@ -106,14 +148,14 @@ fn head(image: &[u8], kind: u8) -> Result<(&[u8], &[u8]), Refusal> {
 fn record<'a, const L: usize>(
     bytes: &'a [u8],
     mark: &[u8; 2],
-    index: usize,
+    at: At,
 ) -> Result<(&'a [u8; L], &'a [u8]), Refusal> {
     if bytes.len() >= 2 && !bytes.starts_with(mark) {
-        return refuse(2, index);
+        return refuse(2, at);
     }
     match bytes.split_first_chunk() {
         Some(parts) => Ok(parts),
-        None => refuse(1, index),
+        None => refuse(1, at),
     }
 }
 
@@ -125,36 +167,36 @@ fn whole<const L: usize>(bytes: &[u8], mark: &[u8; 2]) -> usize {
         .count()
 }
 
-/// The framing from an SL or EN on that has this index: numbers 1, 2 and 10.
-fn frame_entries(rest: &[u8], index: usize) -> Result<(), Refusal> {
+/// The framing from an SL or EN on that stands there: numbers 1, 2 and 10.
+fn frame_entries(rest: &[u8], at: At) -> Result<(), Refusal> {
     let count = whole::<SL>(rest, b"SL");
-    frame_end(&rest[SL * count..], b"SL", index + count)
+    frame_end(&rest[SL * count..], b"SL", at.behind(count, SL))
 }
 
-/// The framing from an ID, PV or EN on that has this index: numbers 1, 2 and 10.
-fn frame_tables(rest: &[u8], index: usize) -> Result<(), Refusal> {
+/// The framing from an ID, PV or EN on that stands there: numbers 1, 2 and 10.
+fn frame_tables(rest: &[u8], at: At) -> Result<(), Refusal> {
     let count = whole::<ID>(rest, b"ID");
-    let (rest, index) = (&rest[ID * count..], index + count);
+    let (rest, at) = (&rest[ID * count..], at.behind(count, ID));
     if rest.starts_with(b"ID") {
-        return refuse(1, index);
+        return refuse(1, at);
     }
-    frame_inversions(rest, index)
+    frame_inversions(rest, at)
 }
 
-/// The framing from a PV or EN on that has this index: numbers 1, 2 and 10.
-fn frame_inversions(rest: &[u8], index: usize) -> Result<(), Refusal> {
+/// The framing from a PV or EN on that stands there: numbers 1, 2 and 10.
+fn frame_inversions(rest: &[u8], at: At) -> Result<(), Refusal> {
     let count = whole::<PV>(rest, b"PV");
-    frame_end(&rest[PV * count..], b"PV", index + count)
+    frame_end(&rest[PV * count..], b"PV", at.behind(count, PV))
 }
 
 /// The framing behind the last whole record with this mark: numbers 1, 2 and 10.
-fn frame_end(rest: &[u8], mark: &[u8; 2], index: usize) -> Result<(), Refusal> {
+fn frame_end(rest: &[u8], mark: &[u8; 2], at: At) -> Result<(), Refusal> {
     if rest.starts_with(mark) {
-        return refuse(1, index);
+        return refuse(1, at);
     }
-    let (en, behind) = record::<EN>(rest, b"EN", index)?;
-    if four(en, 2) as usize != index || !behind.is_empty() {
-        return refuse(10, index);
+    let (en, behind) = record::<EN>(rest, b"EN", at)?;
+    if four(en, 2) as usize != at.place || !behind.is_empty() {
+        return refuse(10, at);
     }
     Ok(())
 }
@@ -201,10 +243,10 @@ fn judge_set(tks: &[u8]) -> Result<Jobs, Refusal> {
     for ((i, task), tk) in tasks.iter_mut().enumerate().zip(tks.chunks_exact(TK)) {
         let [release, time, period, deadline] = [2, 6, 10, 14].map(|at| four(tk, at));
         if time < 1 || time > deadline || deadline > period || release > period - deadline {
-            return refuse(6, i + 1);
+            return refuse(6, at_task(i));
         }
         if period < before {
-            return refuse(7, i + 1);
+            return refuse(7, at_task(i));
         }
         if period > before {
             hyperperiod = common_multiple(hyperperiod, period);
@@ -218,13 +260,13 @@ fn judge_set(tks: &[u8]) -> Result<Jobs, Refusal> {
         before = period;
     }
     if hyperperiod > MOST_HYPERPERIOD {
-        return refuse(8, 0);
+        return refuse(8, no_record(0));
     }
     let n = tks.len() / TK;
     let counts = tasks[..n].iter().map(|task| hyperperiod / task.period);
     let all = counts.sum::<u32>();
     if all > MOST_JOBS {
-        return refuse(9, 0);
+        return refuse(9, no_record(0));
     }
     Ok(Jobs {
         n,
@@ -238,11 +280,11 @@ fn judge_set(tks: &[u8]) -> Result<Jobs, Refusal> {
 fn jobs_of(
     tks: &[u8],
     rest: &[u8],
-    frame: fn(&[u8], usize) -> Result<(), Refusal>,
+    frame: fn(&[u8], At) -> Result<(), Refusal>,
 ) -> Result<Jobs, Refusal> {
     let jobs = judge_set(tks);
     if jobs.is_err() {
-        frame(rest, 1 + tks.len() / TK)?;
+        frame(rest, at_task(tks.len() / TK))?;
     }
     jobs
 }
@@ -279,7 +321,6 @@ fn scan(
     records: &[u8],
     mut each: impl FnMut(&Jobs, &Entry),
 ) -> Result<&[u8], Refusal> {
-    let first = 1 + jobs.n;
     let mut rest = records;
     let mut free = 0;
     while let Some((sl, behind)) = rest.split_first_chunk::<SL>() {
@@ -288,9 +329,9 @@ fn scan(
         }
         let (task, start) = (usize::from(sl[2]), four(sl, 3));
         if !jobs.allow(task, start, free) {
-            let place = first + (records.len() - rest.len()) / SL;
-            frame_entries(rest, place)?;
-            return refuse(jobs.broken_by(task, start, free), place);
+            let at = at_task(jobs.n).behind((records.len() - rest.len()) / SL, SL);
+            frame_entries(rest, at)?;
+            return refuse(jobs.broken_by(task, start, free), at);
         }
         let slot = task % SLOTS;
         each(&jobs, &Entry { slot, start, free });
@@ -300,9 +341,10 @@ fn scan(
         rest = behind;
     }
     let entries = &records[..records.len() - rest.len()];
-    frame_end(rest, b"SL", first + entries.len() / SL)?;
+    let at = at_task(jobs.n).behind(entries.len() / SL, SL);
+    frame_end(rest, b"SL", at)?;
     match jobs.missing() {
-        Some(task) => refuse(16, task),
+        Some(task) => refuse(16, no_record(task)),
         None => Ok(entries),
     }
 }
@@ -366,7 +408,7 @@ fn derive_entries<const WORDS: usize>(
     let front = TS + TK * jobs.n;
     let length = front + ID * idles + PV * inversions + EN;
     let Some(out) = out.get_mut(..length) else {
-        return refuse(20, 0);
+        return refuse(20, no_record(0));
     };
     let (head, body) = out.split_at_mut(front);
     let (ids, body) = body.split_at_mut(ID * idles);
@@ -491,11 +533,11 @@ fn tables_of(image: &[u8]) -> Result<Tables<'_>, Refusal> {
     let ids = image.len() - rest.len();
     let rest = idles(&jobs, rest)?;
     let pvs = image.len() - rest.len();
-    let index = 1 + jobs.n + (pvs - ids) / ID;
+    let at = at_task(jobs.n).behind((pvs - ids) / ID, ID);
     if rest.starts_with(b"ID") {
-        return refuse(1, index);
+        return refuse(1, at);
     }
-    let counts = inversions(&jobs, rest, index)?;
+    let counts = inversions(&jobs, rest, at)?;
     let of_task = first_places(&counts, pvs);
     Ok(Tables {
         image,
@@ -517,9 +559,9 @@ fn idles<'a>(jobs: &Jobs, records: &'a [u8]) -> Result<&'a [u8], Refusal> {
         }
         let (start, length) = (word >> 16 & 0xFFFF_FFFF, word & 0xFFFF);
         if start < least || length < 1 || start + length >= u64::from(jobs.hyperperiod) {
-            let place = 1 + jobs.n + (records.len() - rest.len()) / ID;
-            frame_tables(rest, place)?;
-            return refuse(17, place);
+            let at = at_task(jobs.n).behind((records.len() - rest.len()) / ID, ID);
+            frame_tables(rest, at)?;
+            return refuse(17, at);
         }
         least = start + length + 1;
         rest = behind;
@@ -527,8 +569,8 @@ fn idles<'a>(jobs: &Jobs, records: &'a [u8]) -> Result<&'a [u8], Refusal> {
     Ok(rest)
 }
 
-/// How many PV records each task has, the first record having this index.
-fn inversions(jobs: &Jobs, records: &[u8], index: usize) -> Result<[usize; SLOTS], Refusal> {
+/// How many PV records each task has, the first record standing there.
+fn inversions(jobs: &Jobs, records: &[u8], first: At) -> Result<[usize; SLOTS], Refusal> {
     let mut counts = [0; SLOTS];
     let mut rest = records;
     let mut least = 0;
@@ -539,15 +581,16 @@ fn inversions(jobs: &Jobs, records: &[u8], index: usize) -> Result<[usize; SLOTS
         }
         let (task, job) = ((key >> 16) as u8, key as u16);
         if key < least || !jobs.allow_inversion(task, job, delay) {
-            let place = index + (records.len() - rest.len()) / PV;
-            frame_inversions(rest, place)?;
-            return refuse(17, place);
+            let at = first.behind((records.len() - rest.len()) / PV, PV);
+            frame_inversions(rest, at)?;
+            return refuse(17, at);
         }
         counts[usize::from(task) % SLOTS] += 1;
         least = key + 1;
         rest = behind;
     }
-    frame_end(rest, b"PV", index + (records.len() - rest.len()) / PV)?;
+    let count = (records.len() - rest.len()) / PV;
+    frame_end(rest, b"PV", first.behind(count, PV))?;
     Ok(counts)
 }
 
@@ -608,7 +651,7 @@ fn replay(tables: &Tables, mut each: impl FnMut(usize, u32)) -> Result<(), Refus
         let slot = chosen(image, next, waiting, instant);
         let (task, next) = (&jobs.tasks[slot], &mut next[slot]);
         if instant - next.release > task.slack {
-            return refuse(18, started);
+            return refuse(18, no_record(started));
         }
         if inversion_at(image, next.pv) >> 32 == next.own >> 32 {
             let lower_waits = waiting & ((1 << slot) - 1) != 0;
@@ -673,13 +716,13 @@ fn idle_at(image: &[u8], at: usize, instant: u32) -> Option<u32> {
 
 /// Number 19 for the first ID that was not used, else for the first PV that changed nothing.
 fn all_used(tables: &Tables, id: usize, useless: usize) -> Result<(), Refusal> {
-    let first = 1 + tables.jobs.n;
+    let first = at_task(tables.jobs.n);
     if id < tables.pvs {
-        return refuse(19, first + (id - tables.ids) / ID);
+        return refuse(19, first.behind((id - tables.ids) / ID, ID));
     }
     if useless < tables.image.len() {
-        let idles = (tables.pvs - tables.ids) / ID;
-        return refuse(19, first + idles + (useless - tables.pvs) / PV);
+        let first = first.behind((tables.pvs - tables.ids) / ID, ID);
+        return refuse(19, first.behind((useless - tables.pvs) / PV, PV));
     }
     Ok(())
 }

@@ -110,7 +110,11 @@ fn fast_answer(case: &str) -> Option<String> {
 }
 
 fn told<T>(answer: Result<T, fast::Refusal>) -> Result<T, Refusal> {
-    answer.map_err(|fast::Refusal { number, place }| Refusal { number, place })
+    answer.map_err(|refusal| Refusal {
+        number: refusal.number,
+        place: refusal.place,
+        offset: refusal.offset,
+    })
 }
 
 /// The result in an output of so many bytes, which has to keep the bytes behind it, and all of them
@@ -137,6 +141,5 @@ fn begin(image: &[u8]) -> Step {
 fn go_on(image: &[u8], before: &State, end: u64) -> Step {
     let mut state = *before;
     let answer = dispatcher::go_on(&mut state, image, end);
-    let place = 0;
-    (state, answer.map_err(|number| Refusal { number, place }))
+    (state, answer.map_err(Refusal::of_no_record))
 }

@@ -65,10 +65,10 @@ od -An -v -tu1 -j 131 -N 2800 samples/drive.timetable.image | tr -s ' ' '\n' |
 diff "$built/expected" "$built/written" || fail "samples/drive.tables.image: not the starts of samples/drive.timetable.image"
 
 # Images that are refused, among them P2's with one byte changed: nothing starts.
-echo 'image refused 18 4' | expect 1 samples/refused/18-idle-too-long.image
+echo 'image refused 18 4 0' | expect 1 samples/refused/18-idle-too-long.image
 cp samples/p2.image "$built/changed.image"
 printf '\006' | dd of="$built/changed.image" bs=1 seek=75 conv=notrunc status=none
-echo 'image refused 19 5' | expect 1 "$built/changed.image"
+echo 'image refused 19 5 67' | expect 1 "$built/changed.image"
 
 # The manual's commands write what stands behind them there; of longer output the first lines.
 awk -v built="$built" '

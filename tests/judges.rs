@@ -1,15 +1,14 @@
 //! A task set judged by 5 to 9 with a hyperperiod that is found in one of two plain ways, none of them by remainders of remainders: by
 //! trying multiples of the longest period, and by the primes of every period.
 
+use crate::archive::Judged;
+
 const MOST_TASKS: u32 = 16;
 const MOST_TICKS: u32 = 65_535;
 const MOST_JOBS: u32 = 4_096;
 
 /// O, C, T and D.
 pub type Task = [u32; 4];
-
-/// The hyperperiod and the jobs a cycle, or the number and the place of a refusal.
-pub type Judged = Result<(u32, u32), (u32, u64)>;
 
 /// A way to find the hyperperiod of tasks whose periods are at least 1: none where it is above the limit.
 pub type Way = fn(&[Task]) -> Option<u32>;

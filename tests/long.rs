@@ -5,6 +5,7 @@
 #[allow(dead_code)]
 mod archive;
 
+use archive::{check_tables, rebuild};
 use std::io::Write;
 
 const TASKS: u32 = 16;
@@ -15,17 +16,10 @@ fn main() {
     let tables = image(2, &[idles(), inversions()].concat());
     assert!(tables.len() > 65_536, "{} bytes", tables.len());
     let timetable = image(1, &entries());
-    let mut place = 1;
-    // SAFETY: the image has as many bytes as is said, and the two regions do not overlap.
-    let number = unsafe { archive::hv_check_tables(tables.as_ptr(), tables.len(), &mut place) };
-    assert_eq!((number, place), (0, 0));
-    let (mut out, mut length) = (vec![0; timetable.len()], 0);
-    let (from, len) = (tables.as_ptr(), tables.len());
-    let (to, room) = (out.as_mut_ptr(), out.len());
-    // SAFETY: image and output have as many bytes as is said, and no two regions overlap.
-    let number = unsafe { archive::hv_rebuild(from, len, to, room, &mut place, &mut length) };
-    assert_eq!((number, length as usize), (0, timetable.len()));
-    assert!(out == timetable, "another timetable is rebuilt");
+    let case = "the long image";
+    assert_eq!(check_tables(&case, &tables), Ok(()));
+    let rebuilt = rebuild(&case, timetable.len(), &tables);
+    assert!(rebuilt == Ok(timetable), "another timetable is rebuilt");
     let mut stdout = std::io::stdout();
     stdout.write_all(&tables).expect("the output takes bytes");
 }

@@ -68,12 +68,13 @@ impl Case {
         value.map_err(|_| format!("{name} is no number: {}", self.line))
     }
 
-    /// The number and the place of a refusal.
+    /// The number, the place and the byte offset of a refusal.
     pub fn refusal(&self) -> Option<Refusal> {
         let mut words = self.answer.strip_prefix("refused ")?.split(' ');
         Some(Refusal {
             number: words.next()?.parse().ok()?,
             place: words.next()?.parse().ok()?,
+            offset: words.next()?.parse().ok()?,
         })
     }
 }
@@ -160,8 +161,13 @@ fn told<T>(given: Result<T, Refusal>) -> String {
     given.map_or_else(refused, |_| "accepted".to_string())
 }
 
-fn refused(refusal: Refusal) -> String {
-    format!("refused {} {}", refusal.number, refusal.place)
+pub fn refused(refusal: Refusal) -> String {
+    let Refusal {
+        number,
+        place,
+        offset,
+    } = refusal;
+    format!("refused {number} {place} {offset}")
 }
 
 /// How a refusal left the state.
@@ -250,7 +256,8 @@ fn other_functions(root: &Path, case: &Case) -> Result<Vec<String>, String> {
         if (5..=9).contains(&refusal.number) {
             let (n, tasks) = tasks_of(&image);
             let given = face.judge_set(n, &tasks);
-            demand(given == Err(refusal), "judging the set gives another one");
+            let expected = Err((refusal.number, refusal.place));
+            demand(given == expected, "judging the set gives another one");
         }
     }
     Ok(faults)

@@ -31,7 +31,7 @@ expect() {
 
 # Document 01's lines for P2, then the next cycle's; the new image is P5, which is refused.
 expect 0 "$samples/p2.image" "$samples/refused/18-idle-too-long.image" 9 <<'LINES'
-new image refused 18 4
+new image refused 18 4 0
 0 0 0 1
 2 0 1 7
 1 0 7 9
@@ -64,7 +64,7 @@ LINES
 
 # The image itself is refused: nothing starts.
 expect 1 "$samples/refused/18-idle-too-long.image" "$samples/p2.image" 9 <<'LINES'
-image refused 18 4
+image refused 18 4 0
 LINES
 
 # Prints the archive's symbols of the given types.
@@ -95,7 +95,8 @@ same_border() {
 header=$tests/../include/hervantyu.h
 crate=$tests/../crates/hervantyu/src/lib.rt
 same_border "$header" "$crate" || { cat "$built/of-header" "$built/of-crate"; echo "the header's functions are not the crate's, or have other kinds of parameters" >&2; exit 1; }
-# That test has to refuse slips: a length of a pointer's width, a narrow number, a struct by value, a narrow result, a parameter too many, and the like in the crate.
+# That test has to refuse slips: a length of a pointer's width, a narrow number, a struct by value, a narrow result, a parameter too many, a place without its
+# offset, and the like in the crate.
 slip() {
     sed "$2" "$1" >"$built/slip.${1##*.}"
     if cmp -s "$1" "$built/slip.${1##*.}"; then echo "a slip changes nothing: $2" >&2; exit 1; fi
@@ -104,10 +105,12 @@ slip() {
 }
 for edit in 's/uint64_t len,/size_t len,/' 's/(uint32_t n,/(uint8_t n,/' 's/(struct hv_dispatcher \*HV_RESTRICT d/(struct hv_dispatcher d/' \
     's/^uint32_t hv_begin/uint16_t hv_begin/' 's/uint64_t end,/uint32_t end,/' 's/uint64_t end,/uint64_t end, uint32_t more,/' 's/    uint32_t cycle;/    uint64_t cycle;/' \
+    's/uint64_t where\[HV_LENT(2)\]/uint64_t *HV_RESTRICT place/' \
     's/const uint8_t \*HV_RESTRICT image, uint64_t len, uint64_t end/uint64_t len, const uint8_t *HV_RESTRICT image, uint64_t end/'; do
     slip "$header" "$edit"
 done
-for edit in 's/^    n: u32,/    n: usize,/' 's/^    end: u64,/    end: u16,/' 's/^    n: u32,/    n: Refusal,/' 's/^    end: u64,//' 's/place: &mut u64) -> u32/place: \&mut u64) -> bool/'; do
+for edit in 's/^    n: u32,/    n: usize,/' 's/^    end: u64,/    end: u16,/' 's/^    n: u32,/    n: Refusal,/' 's/^    end: u64,//' \
+    's/location: &mut \[u64; 2\]) -> u32/location: \&mut [u64; 2]) -> bool/' 's/location: &mut \[u64; 2\]/location: \&mut [u32; 2]/'; do
     slip "$crate" "$edit"
 done
 echo "the manual's program, the archive's symbols and what crosses its border are as the manual says"

@@ -59,7 +59,7 @@ fn set_answer(case: &str, n: &str, tasks: &[&str]) -> Option<String> {
     }
     Some(match judge_set(&case, n.parse().ok()?, &tasks) {
         Ok((hyperperiod, jobs)) => format!("ok {hyperperiod} {jobs}"),
-        Err(refusal) => refusal_text(refusal),
+        Err((number, place)) => format!("refused {number} {place}"),
     })
 }
 
@@ -135,8 +135,14 @@ fn answer_text(answer: &Result<Start, Refusal>) -> String {
     }
 }
 
+/// The refusal of an image.
 fn refusal_text(refusal: Refusal) -> String {
-    format!("refused {} {}", refusal.number, refusal.place)
+    let Refusal {
+        number,
+        place,
+        offset,
+    } = refusal;
+    format!("refused {number} {place} {offset}")
 }
 
 fn task_from(text: &str) -> Option<[u32; 4]> {

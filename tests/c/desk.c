@@ -1,5 +1,5 @@
-/* The examples P1 to P12 of document 01, asked of the archive from C through its header alone: numbers, places and bytes, and that every call leaves the rest
- * of what it was lent, and the guards around it, as they were. */
+/* The examples P1 to P12 of document 01, asked of the archive from C through its header alone: numbers, places, byte offsets and bytes, and that every call
+ * leaves the rest of what it was lent, and the guards around it, as they were. */
 #include "hervantyu.h"
 
 #include <stdio.h>
@@ -34,6 +34,11 @@ struct word {
     uint32_t guard, now, behind;
 };
 
+/* Place and byte offset between two guards. */
+struct location {
+    uint64_t guard, now[2], behind;
+};
+
 static void lend(struct bytes *lent, const uint8_t *content, size_t length)
 {
     memset(lent->now, filling, sizeof lent->now);
@@ -63,6 +68,11 @@ static int wide_is(const struct wide *lent, uint64_t value)
     return lent->guard == wide_filling() && lent->now == value && lent->behind == wide_filling();
 }
 
+static struct location lend_location(void)
+{
+    return (struct location){wide_filling(), {wide_filling(), wide_filling()}, wide_filling()};
+}
+
 static struct word lend_word(void)
 {
     uint32_t value = (uint32_t)wide_filling();
@@ -81,6 +91,18 @@ struct image {
     uint8_t bytes[MOST];
 };
 
+struct refusal {
+    uint32_t number;
+    uint64_t place, offset;
+};
+
+static const struct refusal none = {0, 0, 0}, no_room = {20, 0, 0};
+
+static int location_is(const struct location *lent, struct refusal refusal)
+{
+    return lent->guard == wide_filling() && lent->now[0] == refusal.place && lent->now[1] == refusal.offset && lent->behind == wide_filling();
+}
+
 /* What an image of a kind is asked: to be checked, and to be turned into its other kind. */
 struct kind {
     uint32_t (*check)(const uint8_t *restrict, uint64_t, uint64_t *restrict);
@@ -90,27 +112,29 @@ struct kind {
 static const struct kind timetable_kind = {hv_check_timetable, hv_derive};
 static const struct kind table_kind = {hv_check_tables, hv_rebuild};
 
-static void expect_check(const char *example, const struct kind *kind, const struct image *image, uint32_t number, uint64_t place)
+static void expect_check(const char *example, const struct kind *kind, const struct image *image, struct refusal refusal)
 {
     struct bytes lent;
-    struct wide stored = lend_wide();
+    struct location where = lend_location();
     lend(&lent, image->bytes, image->length);
-    check(kind->check(lent.now + GUARD, image->length, &stored.now) == number, example, "checking gives another number");
-    check(wide_is(&stored, place), example, "checking stores another place");
+    check(kind->check(lent.now + GUARD, image->length, where.now) == refusal.number, example, "checking gives another number");
+    check(location_is(&where, refusal), example, "checking stores another place or offset");
     check(kept_behind(&lent, 0), example, "checking changes the image");
 }
 
 /* Where a refusal is expected, no result is. */
-static void expect_turn(const char *example, const struct kind *kind, const struct image *image, uint64_t room, uint32_t number, uint64_t place,
+static void expect_turn(const char *example, const struct kind *kind, const struct image *image, uint64_t room, struct refusal refusal,
                         const struct image *result)
 {
     struct bytes lent, out;
-    struct wide stored = lend_wide(), length = lend_wide();
+    struct location where = lend_location();
+    struct wide length = lend_wide();
     size_t written = result ? result->length : 0;
     lend(&lent, image->bytes, image->length);
     lend(&out, image->bytes, 0);
-    check(kind->turn(lent.now + GUARD, image->length, out.now + GUARD, room, &stored.now, &length.now) == number, example, "turning gives another number");
-    check(wide_is(&stored, place), example, "turning stores another place");
+    check(kind->turn(lent.now + GUARD, image->length, out.now + GUARD, room, where.now, &length.now) == refusal.number, example,
+          "turning gives another number");
+    check(location_is(&where, refusal), example, "turning stores another place or offset");
     check(wide_is(&length, result ? written : wide_filling()), example, "turning stores another length");
     check(kept_behind(&lent, 0), example, "turning changes the image");
     check(kept_behind(&out, written), example, "turning changes the output where it is to be kept");
@@ -138,22 +162,22 @@ static void expect_judge(const char *example, uint32_t n, const uint32_t (*tasks
 }
 
 /* An image that is refused is refused so whatever the room. */
-static void expect_refused(const char *example, const struct kind *kind, const struct image *image, uint32_t number, uint64_t place)
+static void expect_refused(const char *example, const struct kind *kind, const struct image *image, struct refusal refusal)
 {
-    expect_check(example, kind, image, number, place);
-    expect_turn(example, kind, image, 0, number, place, NULL);
-    expect_turn(example, kind, image, MOST, number, place, NULL);
+    expect_check(example, kind, image, refusal);
+    expect_turn(example, kind, image, 0, refusal, NULL);
+    expect_turn(example, kind, image, MOST, refusal, NULL);
 }
 
 /* A good image is turned in an output of just the result's length or more, and refused with 20 in a shorter one. */
 static void expect_turned(const char *example, const struct kind *kind, const struct image *image, const struct image *result)
 {
-    expect_check(example, kind, image, 0, 0);
-    expect_turn(example, kind, image, result->length, 0, 0, result);
-    expect_turn(example, kind, image, result->length + 1, 0, 0, result);
-    expect_turn(example, kind, image, MOST, 0, 0, result);
-    expect_turn(example, kind, image, result->length - 1, 20, 0, NULL);
-    expect_turn(example, kind, image, 0, 20, 0, NULL);
+    expect_check(example, kind, image, none);
+    expect_turn(example, kind, image, result->length, none, result);
+    expect_turn(example, kind, image, result->length + 1, none, result);
+    expect_turn(example, kind, image, MOST, none, result);
+    expect_turn(example, kind, image, result->length - 1, no_room, NULL);
+    expect_turn(example, kind, image, 0, no_room, NULL);
 }
 
 /* A valid timetable and its tables are turned into each other, and neither is of the other's kind. */
@@ -161,8 +185,8 @@ static void expect_pair(const char *example, const struct image *timetable, cons
 {
     expect_turned(example, &timetable_kind, timetable, tables);
     expect_turned(example, &table_kind, tables, timetable);
-    expect_refused(example, &timetable_kind, tables, 4, 0);
-    expect_refused(example, &table_kind, timetable, 4, 0);
+    expect_refused(example, &timetable_kind, tables, (struct refusal){4, 0, 0});
+    expect_refused(example, &table_kind, timetable, (struct refusal){4, 0, 0});
 }
 
 /* ---- Images ---- */
@@ -267,6 +291,16 @@ static const struct image p9_tables = {29, {
     0x54, 0x4B, 0x00, 0x00, 0x00, 0x00, 0x00, 0x00, 0x00, 0x01, 0x00, 0x00, 0x00, 0x01, 0x00, 0x00, 0x00, 0x01,
     0x45, 0x4E, 0x00, 0x00, 0x00, 0x02}};
 
+/* A bad set is refused with place 0, and as the set of images of both kinds, which hold nothing else, with offset 0. */
+static void expect_bad_set(const char *example, uint32_t n, const uint32_t (*tasks)[4], uint32_t number)
+{
+    struct image image = timetable(n, tasks, 0, NULL);
+    expect_judge(example, n, tasks, number, 0, 0);
+    expect_refused(example, &timetable_kind, &image, (struct refusal){number, 0, 0});
+    image.bytes[3] = 2;
+    expect_refused(example, &table_kind, &image, (struct refusal){number, 0, 0});
+}
+
 static void sets(void)
 {
     static const uint32_t p9[1][4] = {{0, 1, 1, 1}};
@@ -275,10 +309,12 @@ static void sets(void)
     static const uint32_t p11[3][4] = {{0, 1, 16, 16}, {0, 1, 65520, 65520}, {0, 1, 65520, 65520}};
     expect_judge("set to work by hand", 3, by_hand, 0, 20, 7);
     expect_judge("P9", 1, p9, 0, 1, 1);
-    expect_judge("P10, 3 and 65,535", 2, p10_9, 9, 0, 0);
-    expect_judge("P10, 2 and 65,535", 2, p10_8, 8, 0, 0);
+    expect_bad_set("P10, 3 and 65,535", 2, p10_9, 9);
+    expect_bad_set("P10, 2 and 65,535", 2, p10_8, 8);
     expect_judge("P11", 2, p11, 0, 65520, 4096);
-    expect_judge("P11 with a third task", 3, p11, 9, 0, 0);
+    struct image image = timetable(2, p11, 0, NULL);
+    expect_refused("P11 without entries", &timetable_kind, &image, (struct refusal){16, 0, 0});
+    expect_bad_set("P11 with a third task", 3, p11, 9);
 }
 
 static void timetables(void)
@@ -286,17 +322,20 @@ static void timetables(void)
     static const uint32_t one[1][4] = {{0, 1, 1, 1}};
     static const struct entry first[1] = {{0, 0}};
     static const struct entry p1[7] = {{0, 0}, {1, 1}, {2, 3}, {0, 9}, {0, 10}, {1, 11}, {0, 15}};
+    static const struct entry without_task_2[6] = {{0, 0}, {1, 1}, {0, 9}, {0, 10}, {1, 11}, {0, 15}};
     struct entry p2[7] = {{0, 0}, {2, 1}, {1, 7}, {0, 9}, {0, 12}, {1, 13}, {0, 15}};
     struct image image = timetable(3, by_hand, 7, p1);
     expect_pair("P1", &image, &p1_tables);
+    image = timetable(3, by_hand, 6, without_task_2);
+    expect_refused("P1 without task 2", &timetable_kind, &image, (struct refusal){16, 2, 0});
     image = timetable(3, by_hand, 7, p2);
     expect_pair("P2", &image, &p2_tables);
     p2[3].start = 10;
     image = timetable(3, by_hand, 7, p2);
-    expect_refused("P3", &timetable_kind, &image, 15, 7);
+    expect_refused("P3", &timetable_kind, &image, (struct refusal){15, 7, 80});
     p2[3].start = 8;
     image = timetable(3, by_hand, 7, p2);
-    expect_refused("P4", &timetable_kind, &image, 14, 7);
+    expect_refused("P4", &timetable_kind, &image, (struct refusal){14, 7, 80});
     image = timetable(1, one, 1, first);
     expect_pair("P9", &image, &p9_tables);
 }
@@ -305,16 +344,19 @@ static void table_images(void)
 {
     static const struct idle p5[1] = {{10, 5}}, p6[2] = {{10, 1}, {11, 1}}, p8[1] = {{16, 2}};
     static const struct inversion p2[2] = {{1, 0, 7}, {2, 0, 1}}, p7[1] = {{2, 0, 3}};
-    struct image image = tables(1, p5, 2, p2), none = {0, {0}};
-    expect_refused("P5", &table_kind, &image, 18, 4);
+    struct image image = tables(1, p5, 2, p2), no_bytes = {0, {0}};
+    expect_refused("P5", &table_kind, &image, (struct refusal){18, 4, 0});
     image = tables(2, p6, 2, p2);
-    expect_refused("P6", &table_kind, &image, 17, 5);
+    expect_refused("P6", &table_kind, &image, (struct refusal){17, 5, 67});
     image = tables(0, NULL, 1, p7);
-    expect_refused("P7", &table_kind, &image, 19, 4);
+    expect_refused("P7", &table_kind, &image, (struct refusal){19, 4, 59});
     image = tables(1, p8, 0, NULL);
-    expect_refused("P8", &table_kind, &image, 19, 4);
-    expect_refused("P12", &timetable_kind, &none, 1, 0);
-    expect_refused("P12", &table_kind, &none, 1, 0);
+    expect_refused("P8", &table_kind, &image, (struct refusal){19, 4, 59});
+    expect_refused("P12", &timetable_kind, &no_bytes, (struct refusal){1, 0, 0});
+    expect_refused("P12", &table_kind, &no_bytes, (struct refusal){1, 0, 0});
+    image = p2_tables;
+    image.length = 85;
+    expect_refused("P2 without EN", &table_kind, &image, (struct refusal){1, 7, 85});
 }
 
 int main(void)

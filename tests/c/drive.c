@@ -51,8 +51,8 @@ static uint64_t run_job(const uint64_t start[4]);
 /* The main loop: jobs run at the times that they are told, until something is refused. Gives back the number, upon which a drive goes to its safe state. */
 static uint32_t main_loop(struct drive *drive, const uint8_t *table_image, uint64_t length)
 {
-    uint64_t place;
-    uint32_t number = hv_begin(&drive->dispatcher, table_image, length, drive->start, &place);
+    uint64_t where[2];
+    uint32_t number = hv_begin(&drive->dispatcher, table_image, length, drive->start, where);
     while (number == 0) {
         uint64_t end = run_job(drive->start);
         number = hv_go_on(&drive->dispatcher, table_image, length, end, drive->start);
@@ -124,9 +124,9 @@ static struct hv_dispatcher begun(void)
 static void expect_begun(struct drive *drive)
 {
     struct hv_dispatcher expected = begun();
-    uint64_t place = 1;
-    check(hv_begin(&drive->dispatcher, image, sizeof image, drive->start, &place) == 0, "beginning is refused");
-    check(place == 0, "beginning stores another place than 0");
+    uint64_t where[2] = {1, 1};
+    check(hv_begin(&drive->dispatcher, image, sizeof image, drive->start, where) == 0, "beginning is refused");
+    check(where[0] == 0 && where[1] == 0, "beginning stores another place or offset than 0");
     check(is_start(drive->start, 0), "beginning answers another start");
     check(memcmp(&drive->dispatcher, &expected, sizeof expected) == 0, "beginning leaves another record");
 }
@@ -180,17 +180,17 @@ static void trial(struct drive *drive)
 {
     uint8_t other[sizeof image];
     struct hv_dispatcher second;
-    uint64_t start[4] = {1, 2, 3, 4}, place = 0;
+    uint64_t start[4] = {1, 2, 3, 4}, where[2] = {1, 1};
     memcpy(other, image, sizeof image);
     other[66] = 5;
     expect_begun(drive);
     expect_starts(drive, 0, 3);
     memset(&second, 1, sizeof second);
-    check(hv_begin(&second, other, sizeof other, start, &place) == 18 && place == 4, "the trial gives another refusal");
+    check(hv_begin(&second, other, sizeof other, start, where) == 18 && where[0] == 4 && where[1] == 0, "the trial gives another refusal");
     check(stopped(&second), "a refused beginning leaves a number");
     check(start[0] == 1 && start[1] == 2 && start[2] == 3 && start[3] == 4, "a refused beginning changes the start");
     expect_starts(drive, 3, JOBS);
-    check(hv_begin(&second, image, sizeof image, start, &place) == 0 && place == 0, "the trial is refused");
+    check(hv_begin(&second, image, sizeof image, start, where) == 0 && where[0] == 0, "the trial is refused");
     check(is_start(start, 0), "the trial answers another start");
     expect_starts(drive, JOBS, 2 * JOBS);
 }

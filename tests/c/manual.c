@@ -42,15 +42,15 @@ struct plan {
     uint32_t hyperperiod;
 };
 
-/* Begins an image in a plan that does not run. Gives 0, or the number of the refusal. */
-static uint32_t begin_plan(struct plan *plan, const uint8_t *image, uint64_t length, uint64_t *place)
+/* Begins an image in a plan that does not run. Gives 0, or the number of the refusal, with its place and byte offset in where. */
+static uint32_t begin_plan(struct plan *plan, const uint8_t *image, uint64_t length, uint64_t where[2])
 {
-    uint32_t jobs, number = hv_begin(&plan->dispatcher, image, length, plan->start, place);
+    uint32_t jobs, number = hv_begin(&plan->dispatcher, image, length, plan->start, where);
     if (number != 0)
         return number;
     plan->image = image;
     plan->length = length;
-    return hv_judge_set(plan->dispatcher.n, (const uint32_t *)plan->dispatcher.tasks, place, &plan->hyperperiod, &jobs);
+    return hv_judge_set(plan->dispatcher.n, (const uint32_t *)plan->dispatcher.tasks, &where[0], &plan->hyperperiod, &jobs);
 }
 
 /* Waits for the start that was told, runs the job, and gives back when it ended, in the plan's time. */
@@ -104,16 +104,16 @@ static size_t read_image(const char *name, uint8_t *bytes)
     return length;
 }
 
-static void print_refusal(const char *what, uint32_t number, uint64_t place)
+static void print_refusal(const char *what, uint32_t number, const uint64_t where[2])
 {
-    printf("%s refused %u %llu\n", what, (unsigned)number, (unsigned long long)place);
+    printf("%s refused %u %llu %llu\n", what, (unsigned)number, (unsigned long long)where[0], (unsigned long long)where[1]);
 }
 
 int main(int count, char **arguments)
 {
     static uint8_t images[2][LONGEST];
     static struct plan first, second;
-    uint64_t place = 0;
+    uint64_t where[2];
     uint32_t number;
     int accepted;
     if (count != 4) {
@@ -121,17 +121,17 @@ int main(int count, char **arguments)
         return 2;
     }
     jobs_to_run = strtoul(arguments[3], NULL, 10);
-    number = begin_plan(&first, images[0], read_image(arguments[1], images[0]), &place);
+    number = begin_plan(&first, images[0], read_image(arguments[1], images[0]), where);
     if (number != 0) {
-        print_refusal("image", number, place);
+        print_refusal("image", number, where);
         return 1;
     }
-    number = begin_plan(&second, images[1], read_image(arguments[2], images[1]), &place);
+    number = begin_plan(&second, images[1], read_image(arguments[2], images[1]), where);
     accepted = number == 0;
     if (!accepted)
-        print_refusal("new image", number, place);
+        print_refusal("new image", number, where);
     number = main_loop(&first, accepted ? &second : NULL);
     if (number != 0)
-        print_refusal("going on", number, 0);
+        print_refusal("going on", number, (const uint64_t[]){0, 0});
     return number != 0;
 }

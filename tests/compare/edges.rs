@@ -1,5 +1,6 @@
 //! Fixed cases at the edges of the rules: idles up to H − 1, states that differ in one number from
-//! the stopped one, jobs that are right only in 32 bits; and those of the modules named here.
+//! the stopped one, jobs that are right only in 32 bits, images that are cut or lack a record; and
+//! those of the modules named here.
 
 use crate::damage::{id, recount};
 use crate::dispatcher::{State, NUMBERS};
@@ -12,10 +13,10 @@ use crate::{large, limits, orders};
 pub const MOST: u64 = u32::MAX as u64;
 
 /// About so many cases are asked.
-pub const ABOUT: u64 = 15_000;
+pub const ABOUT: u64 = 16_000;
 
 /// The groups of fixed cases.
-const GROUPS: [fn() -> Vec<String>; 9] = [
+const GROUPS: [fn() -> Vec<String>; 10] = [
     limits::cases,
     orders::heads,
     orders::pairs_of_faults,
@@ -25,6 +26,7 @@ const GROUPS: [fn() -> Vec<String>; 9] = [
     far_jobs,
     large::most_irregularities,
     large::most_records,
+    missing_by_hand,
 ];
 
 /// All fixed cases; a group is made when it is its turn.
@@ -65,6 +67,26 @@ pub fn by_hand() -> (Set, Vec<Entry>) {
     let starts = [(0, 0), (2, 1), (1, 7), (0, 9), (0, 12), (1, 13), (0, 15)];
     let entries = starts.map(|(task, start)| Entry { task, start });
     (set, entries.to_vec())
+}
+
+/// P2 and its timetable with something missing: cut at every byte, and without one of the records.
+fn missing_by_hand() -> Vec<String> {
+    let (set, entries) = by_hand();
+    let mut cases = Vec::new();
+    for kind in [TIMETABLE, TABLES] {
+        let records = records_of(&set, &entries, kind);
+        let image = encode(&records);
+        for end in 0..image.len() {
+            cases.extend(all_operations(&image[..end], 200));
+        }
+        for missing in 0..records.len() - 1 {
+            let mut others = records.clone();
+            others.remove(missing);
+            recount(&mut others);
+            cases.extend(all_operations(&encode(&others), 200));
+        }
+    }
+    cases
 }
 
 // ---- Idles ----

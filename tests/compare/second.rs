@@ -25,21 +25,31 @@ pub fn answer(landed: Landed, case: &str) -> Option<String> {
     let words: Vec<&str> = case.split_whitespace().collect();
     match words[..] {
         ["set", n, ref tasks @ ..] => set_answer(rules, n, tasks),
-        ["check1", image] => check_answer(rules, rules.check_timetable(&image_from(image)?)),
-        ["check2", image] => check_answer(rules, rules.check_tables(&image_from(image)?)),
+        ["check1", image] => {
+            let image = image_from(image)?;
+            check_answer(rules, &image, rules.check_timetable(&image))
+        }
+        ["check2", image] => {
+            let image = image_from(image)?;
+            check_answer(rules, &image, rules.check_tables(&image))
+        }
         ["derive", room, image] => {
-            let derived = rules.derive(&image_from(image)?, room.parse().ok()?);
-            turn_answer(rules, derived)
+            let image = image_from(image)?;
+            turn_answer(rules, &image, rules.derive(&image, room.parse().ok()?))
         }
         ["rebuild", room, image] => {
-            let rebuilt = rules.rebuild(&image_from(image)?, room.parse().ok()?);
-            turn_answer(rules, rebuilt)
+            let image = image_from(image)?;
+            turn_answer(rules, &image, rules.rebuild(&image, room.parse().ok()?))
         }
         ["list", image] => Some(rules.listing(&image_from(image)?).join("|")),
-        ["begin", image] => Some(rules.step_text(&rules.begin(&image_from(image)?))),
+        ["begin", image] => {
+            let image = image_from(image)?;
+            Some(rules.step_text(&rules.begin(&image), &image))
+        }
         ["go", image, state, end] => {
             let (image, state) = (image_from(image)?, rules.state_from(state)?);
-            Some(rules.step_text(&rules.go_on(&image, &state, end.parse().ok()?)))
+            let step = rules.go_on(&image, &state, end.parse().ok()?);
+            Some(rules.step_text(&step, &image))
         }
         ["run", steps, image] => run_answer(rules, steps.parse().ok()?, &image_from(image)?),
         _ => None,
@@ -68,21 +78,21 @@ fn set_answer(rules: Rules, n: &str, tasks: &[&str]) -> Option<String> {
     slots.resize(SLOTS, Task::default());
     Some(match rules.judge_set(n.parse().ok()?, &slots) {
         Ok(set) => format!("ok {} {}", set.hyperperiod, set.all_jobs()),
-        Err(refusal) => rules.refusal_text(refusal),
+        Err(refusal) => refusal.text(),
     })
 }
 
-fn check_answer<T>(rules: Rules, answer: Result<T, Refusal>) -> Option<String> {
+fn check_answer<T>(rules: Rules, image: &[u8], answer: Result<T, Refusal>) -> Option<String> {
     Some(match answer {
         Ok(_) => "ok".to_string(),
-        Err(refusal) => rules.refusal_text(refusal),
+        Err(refusal) => rules.refusal_text(refusal, image),
     })
 }
 
-fn turn_answer(rules: Rules, answer: Result<Vec<u8>, Refusal>) -> Option<String> {
+fn turn_answer(rules: Rules, image: &[u8], answer: Result<Vec<u8>, Refusal>) -> Option<String> {
     Some(match answer {
         Ok(result) => format!("ok {} {}", result.len(), image_text(&result)),
-        Err(refusal) => rules.refusal_text(refusal),
+        Err(refusal) => rules.refusal_text(refusal, image),
     })
 }
 
@@ -93,7 +103,7 @@ fn run_answer(rules: Rules, steps: u64, image: &[u8]) -> Option<String> {
     for left in (0..steps).rev() {
         match answer {
             Err(refusal) => {
-                told.push(rules.refusal_text(refusal));
+                told.push(rules.refusal_text(refusal, image));
                 break;
             }
             Ok(Start {

@@ -1,7 +1,8 @@
 //! Holds what the desk program decodes for display against the archive's answers: `agree SAMPLES SEED COUNT`.
-//! Over every sample with single bytes changed, and over random images, good and damaged: for each refusal
-//! the words have to be about the record at its place, and an image that is put right by the amount in the
-//! words has to be free of that refusal, one that is put right by one less has to have it still.
+//! Over every sample, also with single bytes changed, over those that are refused, and over random images,
+//! good and damaged: for each refusal the words have to be about the record at its place and the byte at
+//! which that begins, and an image that is put right by the amount in the words has to be free of that
+//! refusal, one that is put right by one less has to have it still.
 
 #[path = "../../desk/about_framing.rs"]
 mod about_framing;
@@ -26,6 +27,8 @@ mod messages;
 mod records;
 #[path = "../../desk/replay.rs"]
 mod replay;
+#[path = "../../desk/rows.rs"]
+mod rows;
 #[path = "../../desk/show.rs"]
 mod show;
 #[path = "../../desk/why.rs"]
@@ -70,6 +73,7 @@ use independent::TODAY;
 use records::{decode, kind_of, Set};
 use std::collections::BTreeMap;
 use std::fs;
+use std::path::PathBuf;
 use std::process::ExitCode;
 
 /// Of these numbers an image can be put right by an amount, or by what the words name.
@@ -95,34 +99,51 @@ fn main() -> ExitCode {
     };
     let mut chance = Chance::new(seed.parse().expect("a seed"));
     let mut count = Count::default();
-    changed_samples(samples, &mut chance, &mut count);
+    for image in images(samples) {
+        hold_sample(&image, &mut count);
+        changed_sample(&image, &mut chance, &mut count);
+    }
+    for image in images(&format!("{samples}/refused")) {
+        hold_sample(&image, &mut count);
+    }
     random_images(cases.parse().expect("a count"), &mut chance, &mut count);
     report(&count)
 }
 
-/// Every sample, then with single bytes changed: each byte of a short one, some of a long one.
-fn changed_samples(folder: &str, chance: &mut Chance, count: &mut Count) {
-    for file in fs::read_dir(folder).expect("the folder can be read") {
-        let path = file.expect("the folder can be read").path();
-        if path.extension() != Some("image".as_ref()) {
-            continue;
-        }
-        let image = fs::read(&path).expect("a sample can be read");
-        let kind = kind_of(&image).unwrap_or(Kind::Tables);
-        count.samples += 1;
-        hold(kind, &image, count);
-        pictures::hold(kind, &image, &mut count.pictures);
-        let places: Vec<usize> = match image.len() {
-            0..=200 => (0..image.len()).collect(),
-            length => (0..5).map(|_| chance.index(length)).collect(),
-        };
-        for at in places {
-            for byte in changed_bytes(image[at]) {
-                let mut changed = image.clone();
-                changed[at] = byte;
-                hold(kind, &changed, count);
-                differences::hold(&image, &changed, &mut count.compared);
-            }
+/// The images in a folder, in the order of their names.
+fn images(folder: &str) -> Vec<Vec<u8>> {
+    let files = fs::read_dir(folder).expect("the folder can be read");
+    let mut paths: Vec<PathBuf> = files
+        .map(|file| file.expect("the folder can be read").path())
+        .filter(|path| path.extension() == Some("image".as_ref()))
+        .collect();
+    paths.sort();
+    let read = |path: &PathBuf| fs::read(path).expect("a sample can be read");
+    paths.iter().map(read).collect()
+}
+
+/// A sample, asked as either kind.
+fn hold_sample(image: &[u8], count: &mut Count) {
+    count.samples += 1;
+    for kind in [Kind::Timetable, Kind::Tables] {
+        hold(kind, image, count);
+        pictures::hold(kind, image, &mut count.pictures);
+    }
+}
+
+/// A sample with single bytes changed: each byte of a short one, some of a long one.
+fn changed_sample(image: &[u8], chance: &mut Chance, count: &mut Count) {
+    let kind = kind_of(image).unwrap_or(Kind::Tables);
+    let places: Vec<usize> = match image.len() {
+        0..=200 => (0..image.len()).collect(),
+        length => (0..5).map(|_| chance.index(length)).collect(),
+    };
+    for at in places {
+        for byte in changed_bytes(image[at]) {
+            let mut changed = image.to_vec();
+            changed[at] = byte;
+            hold(kind, &changed, count);
+            differences::hold(image, &changed, &mut count.compared);
         }
     }
 }
@@ -170,6 +191,7 @@ fn hold(kind: Kind, image: &[u8], count: &mut Count) {
         Err(refusal) => {
             let told = explain::explain(image, kind, refusal);
             words::hold(image, refusal, &told);
+            words::hold_rows(kind, image, refusal);
             *count.explained.entry(refusal.number).or_default() += 1;
             if mend::hold(kind, image, refusal, &told) {
                 *count.mended.entry(refusal.number).or_default() += 1;

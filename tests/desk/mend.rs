@@ -42,7 +42,7 @@ pub fn hold(kind: Kind, image: &[u8], refusal: Refusal, told: &Explanation) -> b
         refusal,
     };
     let decoded = decode(image);
-    let place = refusal.place as usize;
+    let place = refusal.place;
     let only = match &told.broken[..] {
         [only] => only,
         _ => return several(&case, &decoded, told),
@@ -50,7 +50,7 @@ pub fn hold(kind: Kind, image: &[u8], refusal: Refusal, told: &Explanation) -> b
     let by = only.by.unwrap_or(0) as i64;
     match refusal.number {
         1 => case.bytes_added(&only.text, by as usize, place),
-        2 => case.other_marks(&decoded, &told.rule),
+        2 => case.other_marks(&told.rule),
         3 => case.set_to(&decoded, 0, TS_EDITION, 1),
         4 => case.set_to(&decoded, 0, TS_KIND, kind.number()),
         5 if by == 1 && only.text.ends_with("few") => case.moved(&decoded, 0, TS_N, 1),
@@ -73,7 +73,7 @@ pub fn hold(kind: Kind, image: &[u8], refusal: Refusal, told: &Explanation) -> b
 /// Two rules broken at once: where one of two faults of EN is put right, the other is still there.
 fn several(case: &Case, decoded: &Image, told: &Explanation) -> bool {
     if case.refusal.number == 10 {
-        let place = case.refusal.place as usize;
+        let place = case.refusal.place;
         let counted = case.with(decoded, place, EN_NUMBER, place as i64);
         let both = &counted[..decoded.records[place].offset + 6];
         case.still(&counted, &told.broken[1].text);
@@ -162,12 +162,8 @@ impl Case<'_> {
     }
 
     /// 2: of all marks, just those that the rule names may stand at the place.
-    fn other_marks(&self, decoded: &Image, rule: &str) -> bool {
-        let place = self.refusal.place as usize;
-        let offset: usize = decoded.records[..place]
-            .iter()
-            .map(|record| record.bytes.len())
-            .sum();
+    fn other_marks(&self, rule: &str) -> bool {
+        let before = &self.image[..self.refusal.offset];
         let named = rule
             .strip_prefix("here comes ")
             .expect("the rule names marks");
@@ -175,7 +171,7 @@ impl Case<'_> {
         for mark in ["TS", "TK", "SL", "ID", "PV", "EN"] {
             let allowed = named.split([',', ' ']).any(|word| word == mark);
             // Long enough for every body; bytes behind it are looked at later.
-            let image = [&self.image[..offset], mark.as_bytes(), &[0; 16]].concat();
+            let image = [before, mark.as_bytes(), &[0; 16]].concat();
             let refused = refused_so(self.kind, &image, self.refusal);
             let what = format!("{mark} at {:?}, but the words say: {rule}", self.refusal);
             demand(refused != allowed, self.image, &what);
@@ -185,7 +181,7 @@ impl Case<'_> {
 
     /// 6: C, or T, is moved; with D at 0 no C would do.
     fn task(&self, decoded: &Image, broken: &Broken) -> bool {
-        let place = self.refusal.place as usize;
+        let place = self.refusal.place;
         let by = broken.by.unwrap_or(0) as i64;
         if self.value(decoded, place, TK_D) == 0 {
             return false;
@@ -222,7 +218,7 @@ impl Case<'_> {
     }
 
     fn end(&self, decoded: &Image, text: &str) -> bool {
-        let place = self.refusal.place as usize;
+        let place = self.refusal.place;
         if text.starts_with("EN says") {
             return self.set_to(decoded, place, EN_NUMBER, place as u64);
         }
@@ -247,7 +243,7 @@ impl Case<'_> {
         let set = TODAY
             .judge_set(tasks.len() as u64, &tasks)
             .expect("the set comes before");
-        let place = self.refusal.place as usize;
+        let place = self.refusal.place;
         let (task, last) = match (self.refusal.number, records.get(place)) {
             (12, Some(Record::Sl(entry))) => (entry.task, place + 1),
             _ => (place, records.len()),
@@ -271,7 +267,7 @@ impl Case<'_> {
 
     /// 15: one tick less is refused at the same place, by this rule or one that comes before it.
     fn early_enough(&self, decoded: &Image, by: i64) -> bool {
-        let place = self.refusal.place as usize;
+        let place = self.refusal.place;
         let start = self.value(decoded, place, SL_START);
         self.gone(&self.with(decoded, place, SL_START, start - by), "earlier");
         let nearly = self.with(decoded, place, SL_START, start - by + 1);
@@ -285,7 +281,7 @@ impl Case<'_> {
 
     /// 17, where moving the field breaks no other rule of the record.
     fn table_record(&self, decoded: &Image, broken: &Broken) -> bool {
-        let place = self.refusal.place as usize;
+        let place = self.refusal.place;
         let by = broken.by.unwrap_or(0) as i64;
         let text = &broken.text;
         let first = decoded.records[place - 1].form.mark != decoded.records[place].form.mark;

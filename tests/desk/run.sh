@@ -1,6 +1,7 @@
 #!/bin/sh
 # Tests of the desk program: the samples against their numbers, what it decodes against the archive's answers, its texts and exit statuses against cases.txt,
-# its listing against the listing program's cases, the samples' README against the answers. HV_ARCHIVE names another archive than the repository's own.
+# its listing against the listing program's cases, the refused samples' answers and the samples' README against what it prints. HV_ARCHIVE names another archive
+# than the repository's own.
 set -eu
 
 folder=$(cd "$(dirname "$0")" && pwd)
@@ -75,6 +76,28 @@ while IFS= read -r line; do
     esac
 done <"$folder/cases.txt"
 test "$begun" -gt 0 && test "$begun" = "$count" || { echo "$begun commands in cases.txt, $count with a status"; exit 1; }
+
+# For each refused sample the stored answer: its line, its byte in words, and the dump's mark at that byte; neither of these two where the place is no record.
+refused=0
+while read -r image function _ answer; do
+    case $function in
+    hv_check_timetable) kind=1 ;;
+    hv_check_tables) kind=2 ;;
+    *) continue ;;
+    esac
+    refused=$((refused + 1))
+    byte=${answer##* }
+    case $answer in
+    accepted | 'refused 8 '* | 'refused 9 '* | 'refused 16 '* | 'refused 18 '*) expected="$answer;" ;;
+    *) expected="mark $byte;$answer;byte $byte (0x$(printf %X "$byte"));" ;;
+    esac
+    found=$({ hv show --kind "$kind" "samples/refused/$image" || true; } | sed -n -e 's/^> *[-0-9]* *\([0-9]*\) .*/mark \1/p' \
+        -e 's/^samples.*: \(refused [0-9 ]*\), .*/\1/p' -e 's/^samples.*: accepted .*/accepted/p' \
+        -e 's/^  place   record .* at \(byte [0-9]* (0x[0-9A-F]*)\): .*/\1/p' | tr '\n' ';')
+    test "$found" = "$expected" || { differ=$((differ + 1)); echo "hv show --kind $kind samples/refused/$image: $found and not $expected"; }
+done <samples/refused/answers.txt
+test "$refused" -gt 0 || { echo "samples/refused/answers.txt has no line"; exit 1; }
+count=$((count + refused))
 
 # Each sample has its line in the samples' README, with its length and its answer, and no other has one.
 images=0

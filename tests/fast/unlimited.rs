@@ -1,7 +1,7 @@
 //! Checking a table image without the archive's limits: framing and rules as above, then a replay
 //! over records that are decoded before it, with what a decision needs kept at hand.
 
-use super::{key_and_delay, refuse, tables_of, Refusal, Tables, ID, PV, SLOTS};
+use super::{at_task, key_and_delay, no_record, refuse, tables_of, Refusal, Tables, ID, PV, SLOTS};
 
 /// No job is left, or no start is asked for.
 const NEVER: u32 = u32::MAX;
@@ -28,7 +28,7 @@ pub fn check_tables(image: &[u8]) -> Result<(), Refusal> {
         let slot = inverted.unwrap_or(lowest);
         let task = &jobs.tasks[slot];
         if instant - release[slot] > task.slack {
-            return refuse(18, started);
+            return refuse(18, no_record(started));
         }
         if asked[slot] != NEVER && slot == lowest {
             useless = useless.min(next[slot]);
@@ -42,12 +42,13 @@ pub fn check_tables(image: &[u8]) -> Result<(), Refusal> {
         };
         free = instant + task.time;
     }
+    let behind_used = at_task(n).behind(used, ID);
     if used + 1 < idles.len() {
-        return refuse(19, 1 + n + used);
+        return refuse(19, behind_used);
     }
     if useless < starts.len() {
         let before = starts[..useless].iter().filter(|start| **start != NEVER);
-        return refuse(19, 1 + n + used + before.count());
+        return refuse(19, behind_used.behind(before.count(), PV));
     }
     Ok(())
 }

@@ -63,7 +63,7 @@ ALSO("__aeabi_memclr", "clear_memory") ALSO("__aeabi_memclr4", "clear_memory") A
 /* ---- The calls ---- */
 
 static struct hv_dispatcher d;
-static uint64_t start[4], place;
+static uint64_t start[4], where[2];
 
 static uint32_t go_on(const uint8_t *image, uint64_t length, uint64_t end)
 {
@@ -95,7 +95,7 @@ static int run(void)
         if (!length)
             return 0;
         call_begins();
-        if (hv_begin(&d, p, length, start, &place))
+        if (hv_begin(&d, p, length, start, where))
             return 1;
         series_ends();
         for (uint64_t calls = 0; cycles == ONCE ? calls < 1 : start[2] < (cycles == REFUSED ? 1 : cycles); calls++)

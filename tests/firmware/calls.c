@@ -29,7 +29,7 @@ static inline uint32_t *stack_pointer(void)
     return pointer;
 }
 
-uint32_t __wrap_hv_begin(struct hv_dispatcher *d, const uint8_t *image, uint64_t len, uint64_t *start, uint64_t *place)
+uint32_t __wrap_hv_begin(struct hv_dispatcher *d, const uint8_t *image, uint64_t len, uint64_t *start, uint64_t *where)
 {
 #ifdef UNALIGNED
     __asm__ volatile("ldr r3, [%0]" :: "r"((uintptr_t)start + 1) : "r3");
@@ -38,7 +38,7 @@ uint32_t __wrap_hv_begin(struct hv_dispatcher *d, const uint8_t *image, uint64_t
     __asm__ volatile("vmov.f32 s0, s1" ::: "s0");
 #endif
     paint(stack_pointer());
-    uint32_t number = __real_hv_begin(d, image, len, start, place);
+    uint32_t number = __real_hv_begin(d, image, len, start, where);
     tell("stack of hv_begin", stack_pointer());
     return number;
 }

@@ -1,9 +1,9 @@
 //! Document 01's dispatcher written down plainly a second time: its state, beginning and going on.
 
 use crate::independent::{
-    decide, front, idle_in_range, instant_with_waiting, inversion_in_range, record_length, refuse,
-    Decision, Front, Idle, Inversion, Mark, Record, Refusal, Rules, Set, Task, MOST_TASKS, TABLES,
-    TODAY,
+    decide, front, idle_in_range, instant_with_waiting, inversion_in_range, offset_of,
+    record_length, refuse, Decision, Front, Idle, Inversion, Mark, Record, Refusal, Rules, Set,
+    Task, MOST_TASKS, TABLES, TODAY,
 };
 
 pub const SLOTS: usize = MOST_TASKS as usize;
@@ -157,10 +157,8 @@ impl Rules {
     /// The offsets as at a cycle's start, in an accepted table image of this set.
     fn offsets_at_start(&self, image: &[u8], set: &Set) -> Offsets {
         let records = self.frame(image, TABLES).expect("the image is accepted");
-        let length = |record: &Record| record_length(record.mark());
-        let before = |index: usize| records[..index].iter().map(length).sum::<usize>() as u64;
         let mut offsets = Offsets {
-            idle: before(set.head()),
+            idle: offset_of(image, set.head()) as u64,
             ..Offsets::default()
         };
         for task in 0..set.tasks.len() {
@@ -168,7 +166,8 @@ impl Rules {
                 Record::Pv(inversion) => inversion.task >= task,
                 record => record.mark() == Mark::En,
             });
-            offsets.inversions[task] = before(index.expect("an image ends with EN"));
+            let index = index.expect("an image ends with EN");
+            offsets.inversions[task] = offset_of(image, index) as u64;
         }
         offsets
     }

@@ -61,14 +61,14 @@ impl Rules {
         self.state_of(&numbers_from(text)?)
     }
 
-    /// The dispatcher's answer with the state after it.
-    pub fn step_text(&self, (state, answer): &Step) -> String {
+    /// The dispatcher's answer for an image, with the state after it.
+    pub fn step_text(&self, (state, answer): &Step, image: &[u8]) -> String {
         let answer = match answer {
             Ok(start) => format!(
                 "start {} {} {} {}",
                 start.task, start.job, start.cycle, start.time
             ),
-            Err(refusal) => self.refusal_text(*refusal),
+            Err(refusal) => self.refusal_text(*refusal, image),
         };
         format!("{answer} state {}", self.state_text(state))
     }

@@ -29,6 +29,22 @@ pub struct Refusal {
     pub place: usize,
 }
 
+impl Refusal {
+    /// The byte of the refused image at which the record named by the place starts, or would start; 0
+    /// where the place is no record: 16 names a task, 18 an index among starts, the others nothing.
+    pub fn offset(&self, image: &[u8]) -> usize {
+        match self.number {
+            1..=7 | 10..=15 | 17 | 19 => offset_of(image, self.place),
+            _ => 0,
+        }
+    }
+
+    /// Number and place as they are told: the whole refusal of a set in memory, which has no bytes.
+    pub fn text(&self) -> String {
+        format!("refused {} {}", self.number, self.place)
+    }
+}
+
 pub fn refuse<T>(number: u64, place: usize) -> Result<T, Refusal> {
     Err(Refusal { number, place })
 }
@@ -291,6 +307,16 @@ pub fn front(bytes: &[u8]) -> Front {
         }
     }
     Front::NoMark
+}
+
+/// The byte at which the record with this index starts in an image, or would start: all before it are
+/// whole.
+pub fn offset_of(image: &[u8], index: usize) -> usize {
+    let behind = |offset: usize, _| match front(&image[offset..]) {
+        Front::Whole(record) => offset + record_length(record.mark()),
+        _ => panic!("a record before the one that is named is not whole"),
+    };
+    (0..index).fold(0, behind)
 }
 
 // ---- Framing ----
@@ -658,20 +684,24 @@ fn fitting(result: Vec<u8>, room: u64) -> Result<Vec<u8>, Refusal> {
 }
 
 impl Rules {
-    /// A refusal as it is told.
-    pub fn refusal_text(&self, refusal: Refusal) -> String {
-        format!("refused {} {}", refusal.number, refusal.place)
+    /// The refusal of an image as it is told.
+    pub fn refusal_text(&self, refusal: Refusal, image: &[u8]) -> String {
+        let text = refusal.text();
+        if !self.landed.has(2) {
+            return text;
+        }
+        format!("{text} {}", refusal.offset(image))
     }
 
     /// The lines that the listing program writes.
     pub fn listing(&self, image: &[u8]) -> Vec<String> {
         if image.len() > LONGEST_LISTED {
             let (number, place) = (20, 0);
-            return vec![self.refusal_text(Refusal { number, place })];
+            return vec![self.refusal_text(Refusal { number, place }, image)];
         }
         let (set, _, entries) = match self.check_tables(image) {
             Ok(accepted) => accepted,
-            Err(refusal) => return vec![self.refusal_text(refusal)],
+            Err(refusal) => return vec![self.refusal_text(refusal, image)],
         };
         let mut lines = Vec::new();
         let mut next = vec![0; set.tasks.len()];

@@ -65,13 +65,13 @@ done <"$cases"
 test "$count" -gt 0 || { echo "no stored case was run" >&2; exit 1; }
 
 # The most bytes that are judged, and one more.
-compare "65,536 bytes of 0" "refused 2 0|" "$(head -c 65536 /dev/zero | listed)"
-compare "65,537 bytes of 0" "refused 20 0|" "$(head -c 65537 /dev/zero | listed)"
+compare "65,536 bytes of 0" "refused 2 0 0|" "$(head -c 65536 /dev/zero | listed)"
+compare "65,537 bytes of 0" "refused 20 0 0|" "$(head -c 65537 /dev/zero | listed)"
 
 # An image that the archive accepts and that is longer.
 compile_rust --edition 2021 -O -D warnings -C link-arg="$archive" -o "$long" "$folder/../long.rs"
 run "$long" >"$cases"
-compare "a valid table image of $(wc -c <"$cases") bytes" "refused 20 0|" "$(listed <"$cases")"
+compare "a valid table image of $(wc -c <"$cases") bytes" "refused 20 0 0|" "$(listed <"$cases")"
 
 # Prints P2's image in pieces, so that it takes several reads.
 pieces() {

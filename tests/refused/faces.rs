@@ -1,6 +1,6 @@
 //! The archive and the independent implementation behind one face, with the archive's types.
 
-use crate::archive::{self, Refusal, State, Step};
+use crate::archive::{self, Judged, Refusal, State, Step};
 use crate::dispatcher;
 use crate::independent::{self, Task, TODAY};
 
@@ -13,7 +13,7 @@ pub enum Kind {
 
 pub trait Face {
     fn name(&self) -> &'static str;
-    fn judge_set(&self, n: u32, tasks: &[[u32; 4]]) -> Result<(u32, u32), Refusal>;
+    fn judge_set(&self, n: u32, tasks: &[[u32; 4]]) -> Judged;
     fn check(&self, kind: Kind, image: &[u8]) -> Result<(), Refusal>;
     fn turn(&self, kind: Kind, room: u64, image: &[u8]) -> Result<Vec<u8>, Refusal>;
     fn begin(&self, image: &[u8]) -> Step;
@@ -29,7 +29,7 @@ impl Face for Archive<'_> {
         "archive"
     }
 
-    fn judge_set(&self, n: u32, tasks: &[[u32; 4]]) -> Result<(u32, u32), Refusal> {
+    fn judge_set(&self, n: u32, tasks: &[[u32; 4]]) -> Judged {
         archive::judge_set(&self.0, n, tasks)
     }
 
@@ -63,11 +63,11 @@ impl Face for Independent {
         "independent"
     }
 
-    fn judge_set(&self, n: u32, tasks: &[[u32; 4]]) -> Result<(u32, u32), Refusal> {
+    fn judge_set(&self, n: u32, tasks: &[[u32; 4]]) -> Judged {
         let tasks: Vec<Task> = tasks.iter().map(task).collect();
         let judged = TODAY.judge_set(u64::from(n), &tasks);
         let figures = judged.map(|set| (set.hyperperiod as u32, set.all_jobs() as u32));
-        figures.map_err(refusal)
+        figures.map_err(|given| (given.number as u32, given.place as u64))
     }
 
     fn check(&self, kind: Kind, image: &[u8]) -> Result<(), Refusal> {
@@ -75,7 +75,7 @@ impl Face for Independent {
             Kind::Timetable => TODAY.check_timetable(image).map(|_| ()),
             Kind::Tables => TODAY.check_tables(image).map(|_| ()),
         }
-        .map_err(refusal)
+        .map_err(|given| refusal(given, image))
     }
 
     fn turn(&self, kind: Kind, room: u64, image: &[u8]) -> Result<Vec<u8>, Refusal> {
@@ -83,16 +83,16 @@ impl Face for Independent {
             Kind::Timetable => TODAY.derive(image, room),
             Kind::Tables => TODAY.rebuild(image, room),
         }
-        .map_err(refusal)
+        .map_err(|given| refusal(given, image))
     }
 
     fn begin(&self, image: &[u8]) -> Step {
-        step(TODAY.begin(image))
+        step(TODAY.begin(image), image)
     }
 
     fn go_on(&self, image: &[u8], state: &State, end: u64) -> Step {
         let state = dispatcher::State::from_numbers(&state.map(u64::from));
-        step(TODAY.go_on(image, &state, end))
+        step(TODAY.go_on(image, &state, end), image)
     }
 }
 
@@ -105,15 +105,16 @@ fn task(&[offset, time, period, deadline]: &[u32; 4]) -> Task {
     }
 }
 
-fn refusal(given: independent::Refusal) -> Refusal {
+fn refusal(given: independent::Refusal, image: &[u8]) -> Refusal {
     Refusal {
         number: given.number as u32,
         place: given.place as u64,
+        offset: given.offset(image) as u64,
     }
 }
 
-fn step((state, given): dispatcher::Step) -> Step {
+fn step((state, given): dispatcher::Step, image: &[u8]) -> Step {
     let numbers = state.numbers().map(|number| number as u32);
     let start = given.map(|start| [start.task, start.job, start.cycle, start.time]);
-    (numbers, start.map_err(refusal))
+    (numbers, start.map_err(|given| refusal(given, image)))
 }

@@ -2,7 +2,7 @@
 
 use crate::archive::Refusal;
 use crate::faces::{Archive, Face, Independent, Kind};
-use crate::{place_of, sample, Case};
+use crate::{place_of, refused, sample, Case};
 use std::fs;
 use std::path::Path;
 
@@ -183,7 +183,7 @@ fn run_text((first, last, given): &(u64, u64, Result<(), Refusal>), most: u64) -
     };
     match given {
         Ok(()) => format!("{values} accepted"),
-        Err(refusal) => format!("{values} refused {} {}", refusal.number, refusal.place),
+        Err(refusal) => format!("{values} {}", refused(*refusal)),
     }
 }
 
@@ -272,7 +272,12 @@ fn quoted_program(page: &str, programs: &str) -> Vec<String> {
         .iter()
         .filter(|piece| !programs.contains(&format!("{}\n", piece.join("\n"))));
     absent
-        .map(|piece| format!("not in tests/c/manual.c or firmware/main.c: {}", piece.join("\n")))
+        .map(|piece| {
+            format!(
+                "not in tests/c/manual.c or firmware/main.c: {}",
+                piece.join("\n")
+            )
+        })
         .collect()
 }
 

@@ -239,19 +239,23 @@ static void demand_kept(const struct lent *lent, size_t written, const char *wha
 
 /* ---- The operations; the words are those behind the operation's name ---- */
 
-static void put_refused(uint32_t number, uint64_t place)
+/* Where a refusal is: its place and, for that of an image, the byte offset behind it. */
+static void put_refused(uint32_t number, const uint64_t *where, size_t count)
 {
     put("refused ");
     put_number(number);
-    put(" ");
-    put_number(place);
+    for (size_t i = 0; i < count; i++) {
+        put(" ");
+        put_number(where[i]);
+    }
 }
 
-static void demand_place(uint32_t number, const struct lent *place)
+static void demand_where(uint32_t number, const struct lent *where, size_t count)
 {
-    demand_kept(place, 1, "the place is written beside it");
-    if (number == 0 && wide(place, 0) != 0)
-        fault("nothing is refused, but the place is not 0");
+    demand_kept(where, count, "written beside where the refusal is");
+    for (size_t i = 0; i < count; i++)
+        if (number == 0 && wide(where, i) != 0)
+            fault("nothing is refused, but its place or offset is not 0");
 }
 
 static void put_start(const struct lent *start)
@@ -263,12 +267,12 @@ static void put_start(const struct lent *start)
 }
 
 /* A dispatcher's answer with the state after it. */
-static void put_step(uint32_t number, uint64_t place, const struct lent *state, const struct lent *start)
+static void put_step(uint32_t number, const uint64_t where[2], const struct lent *state, const struct lent *start)
 {
     demand_kept(state, HV_DISPATCHER_NUMBERS, "the state is written beside it");
     demand_kept(start, number ? 0 : 4, "the start changed where it is to be kept");
     if (number) {
-        put_refused(number, place);
+        put_refused(number, where, 2);
     } else {
         put("start ");
         put_start(start);
@@ -301,9 +305,9 @@ static void judge_set(uint8_t filling)
     demand_kept(&tasks, 0, "the tasks changed");
     demand_kept(&hyperperiod, !number, "the hyperperiod changed where it is to be kept");
     demand_kept(&jobs, !number, "the jobs changed where they are to be kept");
-    demand_place(number, &place);
+    demand_where(number, &place, 1);
     if (number) {
-        put_refused(number, wide(&place, 0));
+        put_refused(number, pointer(&place), 1);
         return;
     }
     put("ok ");
@@ -315,12 +319,12 @@ static void judge_set(uint8_t filling)
 static void check(uint8_t filling, uint32_t (*function)(const uint8_t *restrict, uint64_t, uint64_t *restrict))
 {
     size_t length = bytes_of(1);
-    struct lent bytes = lend(image, 1, length, filling), place = lend(NULL, 8, 1, filling);
-    uint32_t number = function(pointer(&bytes), length, pointer(&place));
+    struct lent bytes = lend(image, 1, length, filling), where = lend(NULL, 8, 2, filling);
+    uint32_t number = function(pointer(&bytes), length, pointer(&where));
     demand_kept(&bytes, 0, "the image changed");
-    demand_place(number, &place);
+    demand_where(number, &where, 2);
     if (number)
-        put_refused(number, wide(&place, 0));
+        put_refused(number, pointer(&where), 2);
     else
         put("ok");
 }
@@ -333,8 +337,8 @@ static void turn(uint8_t filling,
     if (room > ARENA)
         fault("no room for what is lent");
     struct lent bytes = lend(image, 1, length, filling), out = lend(NULL, 1, (size_t)room, filling);
-    struct lent place = lend(NULL, 8, 1, filling), made = lend(NULL, 8, 1, filling);
-    uint32_t number = function(pointer(&bytes), length, pointer(&out), room, pointer(&place), pointer(&made));
+    struct lent where = lend(NULL, 8, 2, filling), made = lend(NULL, 8, 1, filling);
+    uint32_t number = function(pointer(&bytes), length, pointer(&out), room, pointer(&where), pointer(&made));
     demand_kept(&bytes, 0, "the image changed");
     demand_kept(&made, !number, "the length changed where it is to be kept");
     if (number == 0)
@@ -342,9 +346,9 @@ static void turn(uint8_t filling,
     if (written > room)
         fault("the length is above the room");
     demand_kept(&out, (size_t)written, "the output changed where it is to be kept");
-    demand_place(number, &place);
+    demand_where(number, &where, 2);
     if (number) {
-        put_refused(number, wide(&place, 0));
+        put_refused(number, pointer(&where), 2);
         return;
     }
     put("ok ");
@@ -358,12 +362,15 @@ static void begin(uint8_t filling)
 {
     size_t length = bytes_of(1);
     struct lent state = lend(NULL, 4, HV_DISPATCHER_NUMBERS, filling), bytes = lend(image, 1, length, filling);
-    struct lent start = lend(NULL, 8, 4, filling), place = lend(NULL, 8, 1, filling);
-    uint32_t number = hv_begin(pointer(&state), pointer(&bytes), length, pointer(&start), pointer(&place));
+    struct lent start = lend(NULL, 8, 4, filling), where = lend(NULL, 8, 2, filling);
+    uint32_t number = hv_begin(pointer(&state), pointer(&bytes), length, pointer(&start), pointer(&where));
     demand_kept(&bytes, 0, "the image changed");
-    demand_place(number, &place);
-    put_step(number, wide(&place, 0), &state, &start);
+    demand_where(number, &where, 2);
+    put_step(number, pointer(&where), &state, &start);
 }
+
+/* Going on has no place and no offset: both are 0. */
+static const uint64_t nowhere[2];
 
 static void go(uint8_t filling)
 {
@@ -375,7 +382,7 @@ static void go(uint8_t filling)
     struct lent state = lend(before, 4, HV_DISPATCHER_NUMBERS, filling), bytes = lend(image, 1, length, filling), start = lend(NULL, 8, 4, filling);
     uint32_t number = hv_go_on(pointer(&state), pointer(&bytes), length, number_of(3), pointer(&start));
     demand_kept(&bytes, 0, "the image changed");
-    put_step(number, 0, &state, &start);
+    put_step(number, nowhere, &state, &start);
 }
 
 /* A beginning and going on after it, each job reporting start + C; the first refusal ends the run. */
@@ -384,24 +391,24 @@ static void run(uint8_t filling)
     uint64_t count = number_of(1);
     size_t length = bytes_of(2);
     struct lent state = lend(NULL, 4, HV_DISPATCHER_NUMBERS, filling), bytes = lend(image, 1, length, filling);
-    struct lent start = lend(NULL, 8, 4, filling), place = lend(NULL, 8, 1, filling);
+    struct lent start = lend(NULL, 8, 4, filling), where = lend(NULL, 8, 2, filling);
     struct hv_dispatcher *dispatcher = pointer(&state);
-    uint32_t number = hv_begin(dispatcher, pointer(&bytes), length, pointer(&start), pointer(&place));
-    demand_place(number, &place);
-    uint64_t told = wide(&place, 0);
+    uint32_t number = hv_begin(dispatcher, pointer(&bytes), length, pointer(&start), pointer(&where));
+    demand_where(number, &where, 2);
+    const uint64_t *told = pointer(&where);
     for (uint64_t i = 1;; i++) {
         demand_kept(&bytes, 0, "the image changed");
         demand_kept(&state, HV_DISPATCHER_NUMBERS, "the state is written beside it");
         demand_kept(&start, 4, "the start is written beside it");
         if (number) {
-            put_refused(number, told);
+            put_refused(number, told, 2);
             break;
         }
         put_start(&start);
         if (i >= count)
             break;
         put("|");
-        told = 0;
+        told = nowhere;
         number = hv_go_on(dispatcher, pointer(&bytes), length, wide(&start, 3) + dispatcher->tasks[wide(&start, 0) & 15][1], pointer(&start));
     }
 }

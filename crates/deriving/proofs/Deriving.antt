@@ -14,6 +14,7 @@ use Rattle.rules.specs.Setting.{Tables}
 use Rattle.rules.specs.Judging.{tables}
 use Rattle.rules.specs.Marks.{ID, PV, EN, size, head-length-of}
 use Rattle.rules.specs.Image.{image, record-of, head-records, table-image}
+use Rattle.rules.specs.Located.{located}
 use Rattle.rules.specs.Operations.{derived, derived-image, make-answer, output-after, into, derive, derive-output, Derives}
 use Rattle.rules.proofs.GoodSets.{set-good}
 use Rattle.rules.proofs.Images.{records-before, table-image-length}
@@ -31,7 +32,7 @@ use Rattle.deriving.proofs.ValidEntries.{few-idles, few-inversions}
 pub refused-so : {bytes : List ℕ} {kept : Rows} {t : Timetable} (old : List ℕ) → JudgedAs bytes true t kept → (t .refusal .number ≡ 0 → ⊥) →
     Derives bytes old (make-case.Refused (t .refusal)) old
 unfolding derive derive-output
-refused-so old judged numbered = let e = judged .refused numbered .0 in record { answer = rw e; output = rw e }
+refused-so {bytes} {t = t} old judged numbered = let r = judged .refused numbered .0 in record { answer = rw (r .judged) (ap make-case.Refused (r .there)); output = rw (r .judged) }
 
 module _ {bytes : List ℕ} {kept : Rows} {t : Timetable} (g : Good bytes true t kept) where
   -- the set's tasks
@@ -88,7 +89,7 @@ module _ {bytes : List ℕ} {kept : Rows} {t : Timetable} (g : Good bytes true t
 
   -- an output that is too short is refused, and is as it was
   pub too-short : (old : List ℕ) (n : ℕ) → n ≡ long → length old < n →
-      Derives bytes old (make-case.Refused (refusal 20 0)) old
+      Derives bytes old (make-case.Refused (located bytes (refusal 20 0))) old
   unfolding derive derive-output
   too-short old n n-is short =
       let e : derived-image (length old) bytes ≡ refuses (refusal 20 0) =
@@ -103,7 +104,7 @@ module _ {bytes : List ℕ} {kept : Rows} {t : Timetable} (g : Good bytes true t
     -- else the length of the image is answered
     pub answered : make-case.Made n ≡ derive bytes old
     unfolding derive
-    answered = ap make-case.Made (n-is ∙ sym image-long) ∙ sym (ap make-answer given)
+    answered = ap make-case.Made (n-is ∙ sym image-long) ∙ sym (ap (make-answer bytes) given)
 
     -- and the set, the tables and EN put one behind the other are the image at the front of the output, with all other bytes as they were
     pub put-out : (set-put tables-in end-put : List ℕ) (end before : ℕ) →

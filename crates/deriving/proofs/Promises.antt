@@ -9,6 +9,7 @@ use borrow.Author.Tests.{le-leb}
 use Rattle.fields.specs.Number.{Bytes}
 use Rattle.rules.specs.declared.Entry.{Entry}
 use Rattle.rules.specs.declared.Refusal.{Refusal}
+use Rattle.rules.specs.declared.Located.{Located}
 use Rattle.rules.specs.declared.MakeAnswer.{MakeAnswer}
 use Rattle.rules.specs.declared.MakeAnswer.the-variants.{Made, Refused}
 use Rattle.rules.specs.Tasks.{Set}
@@ -16,6 +17,7 @@ use Rattle.rules.specs.Refusals.{Judged, gives}
 use Rattle.rules.specs.Setting.{Tables}
 use Rattle.rules.specs.Judging.{tables}
 use Rattle.rules.specs.Image.{table-image}
+use Rattle.rules.specs.Located.{located}
 use Rattle.rules.specs.Operations.{into, derived-image, make-answer, output-after, derive, derive-output, Derives}
 use Rattle.rules.specs.Promised.{TimetableImage, HasTables, RefusesDeriving}
 use Rattle.rules.proofs.HasTables.{derived-tables, one-table}
@@ -28,11 +30,11 @@ one-result bytes old r q out other met also = (met .answer ∙ sym (also .answer
 
 module _ (bytes old : List ℕ) (r : MakeAnswer) (out : List ℕ) (met : Derives bytes old r out) where
   -- on a refusal all bytes of the output keep their values
-  pub refused-keeps : (q : Refusal) → r ≡ Refused q → out ≡ old
+  pub refused-keeps : (q : Located) → r ≡ Refused q → out ≡ old
   refused-keeps q e = met .output ∙ book.derive-refusals bytes old q (sym (met .answer) ∙ e) .1
 
   -- it is a refusal exactly where that is the first that the document's order comes to, and 20 is the last
-  pub refused-exactly : Bytes bytes → (q : Refusal) → (r ≡ Refused q) ↔ RefusesDeriving bytes (length old) q
+  pub refused-exactly : Bytes bytes → (q : Refusal) → (r ≡ Refused (located bytes q)) ↔ RefusesDeriving bytes (length old) q
   refused-exactly b q =
       let exactly = book.derive-order bytes old b q in
       (λ e. exactly .0 (sym (met .answer) ∙ e), λ w. met .answer ∙ exactly .1 w)
@@ -48,7 +50,7 @@ module _ (bytes old : List ℕ) (r : MakeAnswer) (out : List ℕ) (met : Derives
       derives-image t (length old)
       ∙ ap (λ (Y : Tables). into (length old) (table-image ts Y)) (sym its-tables)
       ∙ rw (le-leb (length (table-image ts X)) (length old) room) in
-      (met .answer ∙ ap make-answer given, met .output ∙ ap (λ (z : Judged (List ℕ)). output-after z old) given)
+      (met .answer ∙ ap (make-answer bytes) given, met .output ∙ ap (λ (z : Judged (List ℕ)). output-after z old) given)
 
   -- and a length is answered only where the bytes are such an image, and those irregularities are what was written
   pub writes-only : Bytes bytes → (n : ℕ) → r ≡ Made n →

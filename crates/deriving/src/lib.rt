@@ -9,7 +9,7 @@ use rules::Idle;
 use rules::Inversion;
 use rules::LARGEST;
 use rules::MakeAnswer;
-use rules::Refusal;
+use rules::TOO_LONG;
 use sets::FIGURES;
 use sets::FIRST;
 use sets::PERIODS;
@@ -152,10 +152,7 @@ pub fn derive(image: &[u8], out: &mut [u8]) -> MakeAnswer
     let end = images::head_length(n) + c.idles * IDLE_SIZE + c.inversions * INVERSION_SIZE;
     let length = end + END_SIZE;
     if out.len() < length {
-        return MakeAnswer::Refused(Refusal {
-            number: 20,
-            place: 0,
-        });
+        return MakeAnswer::Refused(TOO_LONG);
     }
     writing::put_set(out, 2, s);
     put_irregularities(image, &kept, t.listed, c, out);

@@ -5,7 +5,7 @@ use Prim.Native.Nat.{ℕ, _-_}
 use lib.ListN.{length, replicate}
 use Rattle.rules.specs.declared.TaskSet.{TaskSet}
 use Rattle.rules.specs.declared.Dispatcher.{Dispatcher as State}
-use Rattle.rules.specs.Refusals.{refusal}
+use Rattle.rules.specs.declared.CheckAnswer.the-variants.{Refused}
 use Rattle.rules.specs.Tasks.{limits, memory-set}
 use Rattle.rules.specs.Operations.{Tabled, check-answer, check-tables}
 use Rattle.rules.specs.Dispatcher.{zero-task, stopped, refused, fresh, begin-accepted, begin-framed, begin}
@@ -17,9 +17,10 @@ use Rattle.dispatcher.specs.Stored.{fresh-state, start-from}
 
 module _ (bytes : List ℕ) (t : Judgement) {kept : Rows} (j : JudgedAs bytes t kept) where
   -- an image that is refused
-  pub refused-beginning : (t .refusal .number ≡ 0 → ⊥) → refused (refusal (t .refusal .number) (t .refusal .place)) stopped ≡ begin bytes
+  pub refused-beginning : (t .refusal .number ≡ 0 → ⊥) → refused (t .refusal) stopped ≡ begin bytes
   unfolding check-tables
-  refused-beginning n = sym (begin-refuses bytes (t .refusal) (ap check-answer (j .refused n .0)))
+  refused-beginning n =
+      let r = j .refused n .0 in sym (begin-refuses bytes (t .refusal) (ap (check-answer bytes) (r .judged) ∙ ap Refused (sym (r .there))))
 
   module _ (z : t .refusal .number ≡ 0) where
     -- what is known of an image that is accepted

@@ -15,6 +15,7 @@ use Rattle.rules.specs.declared.Dispatcher.{Dispatcher as State}
 use Rattle.rules.specs.Refusals.{refusal}
 use Rattle.rules.specs.Tasks.{Set, both, limits, task, jobs, hyperperiod, few-enough, figures, memory-fault, judge-set}
 use Rattle.rules.specs.Priority.{slot, all-started, setting}
+use Rattle.rules.specs.Located.{located}
 use Rattle.rules.specs.Offsets.{NextStart, next-is, stuck, next-start, lent as lent-by}
 use Rattle.rules.specs.Dispatcher.{number-count, stopped, is-stopped, set-of, counts-possible, possible, began, latest-end, refused, front, last-cycle}
 use Rattle.rules.specs.Dispatcher.{started, at-cycle-start, next-turn, go-on}
@@ -54,18 +55,18 @@ with-good-set lent f long running e keeps =
 
 module _ (bytes : List ℕ) (d : State) (end : ℕ) where
   -- a stopped state stays so: 23
-  pub stays-stopped : is-stopped d ≡ true → refused (refusal 23 0) d ≡ go-on bytes d end
+  pub stays-stopped : is-stopped d ≡ true → refused (located bytes (refusal 23 0)) d ≡ go-on bytes d end
   unfolding go-on
   stays-stopped e = rw (e, go-on)
 
   -- an impossible state: 25
-  pub impossible : is-stopped d ≡ false → possible d ≡ false → refused (refusal 25 0) stopped ≡ go-on bytes d end
+  pub impossible : is-stopped d ≡ false → possible d ≡ false → refused (located bytes (refusal 25 0)) stopped ≡ go-on bytes d end
   unfolding go-on
   impossible s e = rw (s, e, go-on)
 
   -- so is one whose set is refused
   pub impossible-set : (r : Refusal) → is-stopped d ≡ false → set-case.Refused r ≡ judge-set (d .set) →
-      refused (refusal 25 0) stopped ≡ go-on bytes d end
+      refused (located bytes (refusal 25 0)) stopped ≡ go-on bytes d end
   unfolding judge-set
   impossible-set r s e =
       by-option (memory-fault (d .set)) (λ n. let good : set-case.Refused r ≡ set-case.Good (figures (set-of d)) = e ∙ rw n in clash (cc))
@@ -142,13 +143,13 @@ module _ {lent : List ℕ} {kept : Rows} (g : WithGoodSet lent kept) where
   -- a possible state, with a reported end
   module _ (bytes : List ℕ) (end : ℕ) (p : possible d ≡ true) where
     -- an end before the job's start: 21
-    pub too-early : end < d .cycle * h + d .running .start → refused (refusal 21 0) d ≡ go-on bytes d end
+    pub too-early : end < d .cycle * h + d .running .start → refused (located bytes (refusal 21 0)) d ≡ go-on bytes d end
     unfolding go-on
     too-early l = rw (g .not-stopped, p, lt-ltb end (began d) (rw (← cycle-is) l), go-on)
 
     module _ (not-early : d .cycle * h + d .running .start ≤ end) {t : Task} (t-is : t ≡ task (set-of d) (d .running .task)) where
       -- an end after start + C: 22
-      pub too-late : d .cycle * h + d .running .start + t .time < end → refused (refusal 22 0) stopped ≡ go-on bytes d end
+      pub too-late : d .cycle * h + d .running .start + t .time < end → refused (located bytes (refusal 22 0)) stopped ≡ go-on bytes d end
       unfolding go-on
       too-late l =
           rw (
@@ -261,5 +262,5 @@ module _ {lent : List ℕ} {kept : Rows} {releases : List ℕ} {free : ℕ} (c :
           ∙ rw (as-tested ∙ t, lt-ltb (here .cycle) last-cycle l, next-turn)
 
       -- and there is no next cycle: 24
-      pub after-last-cycle : last-cycle ≤ here .cycle → refused (refusal 24 0) here ≡ next-turn bytes here
+      pub after-last-cycle : last-cycle ≤ here .cycle → refused (located bytes (refusal 24 0)) here ≡ next-turn bytes here
       after-last-cycle l = rw (as-tested ∙ t, le-ltb (here .cycle) last-cycle l, next-turn)

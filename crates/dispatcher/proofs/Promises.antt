@@ -5,7 +5,7 @@ use mathlib.Core.Bool.{true}
 use mathlib.Core.List.{List}
 use Prim.Native.Nat.{ℕ, suc, _≤_, _<_}
 use Rattle.fields.specs.Number.{Bytes}
-use Rattle.rules.specs.declared.Refusal.{Refusal}
+use Rattle.rules.specs.declared.Located.{Located}
 use Rattle.rules.specs.declared.Start.{Start as StartOf}
 use Rattle.rules.specs.declared.StartAnswer.{StartAnswer}
 use Rattle.rules.specs.declared.StartAnswer.the-variants as start-case
@@ -43,7 +43,7 @@ gone-on-in-place bytes d end answer after met = λ i. record { answer = met .its
 
 module _ (bytes : List ℕ) (turn : Turn) (begun : Begun bytes turn) where
   -- beginning refuses exactly as table checking does, and hands back the stopped state
-  pub beginning-refuses : (r : Refusal) → check-tables bytes ≡ check-case.Refused r → turn ≡ refused r stopped
+  pub beginning-refuses : (r : Located) → check-tables bytes ≡ check-case.Refused r → turn ≡ refused r stopped
   beginning-refuses r e = begun ∙ book.beginning-refuses bytes r e
 
   -- an image that table checking accepts is begun with a start
@@ -57,9 +57,9 @@ module _ (bytes : List ℕ) (d : State) (end : ℕ) (turn : Turn) (gone-on : Gon
   pub going-on-order : First (going-tests bytes d end) (start-refusal (turn .answer))
   going-on-order = rw gone-on (book.going-on-order bytes d end)
 
-  -- the number is one of 21 to 25, the place 0, and the state is the one that the number leaves
-  pub going-on-leaves : (r : Refusal) → turn .answer ≡ start-case.Refused r →
-      (21 ≤ r .number) × (r .number ≤ 25) × (r .place ≡ 0) × Leaves d (r .number) (turn .state)
+  -- the number is one of 21 to 25, place and offset 0, and the state is the one that the number leaves
+  pub going-on-leaves : (r : Located) → turn .answer ≡ start-case.Refused r →
+      (21 ≤ r .number) × (r .number ≤ 25) × (r .place ≡ 0) × (r .offset ≡ 0) × Leaves d (r .number) (turn .state)
   going-on-leaves r e = rw gone-on (book.going-on-leaves bytes d end r (sym (ap (λ (t : Turn). t .answer) gone-on) ∙ e))
 
 -- only the stopped state tests as stopped

@@ -10,6 +10,7 @@ use Rattle.rules.specs.declared.Turn.{Turn}
 use Rattle.rules.specs.Refusals.{refusal}
 use Rattle.rules.specs.Tasks.{task, hyperperiod}
 use Rattle.rules.specs.Priority.{slot, setting}
+use Rattle.rules.specs.Located.{located}
 use Rattle.rules.specs.Offsets.{Standing, lent, past-own, standing, NextStart, next-is, stuck, next-start}
 use Rattle.rules.specs.Dispatcher.{stopped, set-of, refused, started}
 use Rattle.rules.proofs.Cases.{clash}
@@ -67,7 +68,7 @@ module _ (bytes : List ℕ) (d : State) {kept : Rows} {releases : List ℕ} {fre
   answered-stuck number e = is (set-of d) stands ∙ ap (next-case (set-of d) bytes (d .next) (d .now .inversions)) e
 
   -- none is found: 25
-  pub stuck-next : (number : ℕ) → answer ≡ Stuck number → refused (refusal 25 0) stopped ≡ start-from bytes d free
+  pub stuck-next : (number : ℕ) → answer ≡ Stuck number → refused (located bytes (refusal 25 0)) stopped ≡ start-from bytes d free
   stuck-next number e =
       by-next in-book (λ i t w g. let s = answered-start i t w g in clash (cc)) (λ m g. sym (ap (started bytes d (d .cycle) from) g))
 

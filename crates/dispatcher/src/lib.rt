@@ -16,8 +16,8 @@ use numbers::TASK;
 use numbers::TASK_NUMBERS;
 use rules::Dispatcher;
 use rules::LARGEST;
+use rules::Located;
 use rules::Offsets;
-use rules::Refusal;
 use rules::Running;
 use rules::SetAnswer;
 use rules::Start;
@@ -35,7 +35,7 @@ ghost use mathlib.Core.Path.{_≡_};
 ghost use Prim.Native.Nat.{_+_, _*_, _≤_, _<_};
 ghost use lib.ListN.{length};
 ghost use Rattle.rules.specs.declared.StartAnswer.the-variants.{Refused};
-ghost use Rattle.rules.specs.Refusals.{refusal};
+ghost use Rattle.rules.specs.Refusals.{refusal, of-no-image};
 ghost use Rattle.rules.specs.Dispatcher as book;
 ghost use Rattle.numbers.specs.Numbers.{number-at, state-from};
 ghost use Rattle.sets.specs.Kept.{tasks-in};
@@ -62,19 +62,36 @@ fn is_stopped(numbers: &[u32]) -> bool
     true
 }
 
-// A refusal of going on: its place is 0.
+// A refusal of going on: it names no record.
 fn refused(number: u32) -> StartAnswer
-    ensures { λ r. ⌜ r ≡ Refused (refusal number 0) ⌝ }
+    ensures { λ r. ⌜ r ≡ Refused (of-no-image (refusal number 0)) ⌝ }
 {
-    StartAnswer::Refused(Refusal { number, place: 0 })
+    StartAnswer::Refused(Located {
+        number,
+        place: 0,
+        offset: 0,
+    })
 }
 
+// Those that stop: a state or bytes that are impossible, and an end that comes too late.
+const IMPOSSIBLE: Located = Located {
+    number: 25,
+    place: 0,
+    offset: 0,
+};
+
+const TOO_LATE: Located = Located {
+    number: 22,
+    place: 0,
+    offset: 0,
+};
+
 // A refusal that stops: all numbers of the state are 0 then.
-fn stop(numbers: &mut [u32; NUMBERS], number: u32, place: usize) -> StartAnswer
-    ensures { λ r. ⌜ TurnStored (book.refused (refusal number place) book.stopped) r (now (numbers .exit)) ⌝ }
+fn stop(numbers: &mut [u32; NUMBERS], r: Located) -> StartAnswer
+    ensures { λ a. ⌜ TurnStored (book.refused r book.stopped) a (now (numbers .exit)) ⌝ }
 {
     *numbers = [0u32; NUMBERS];
-    StartAnswer::Refused(Refusal { number, place })
+    StartAnswer::Refused(r)
 }
 
 // The absolute time of an instant in a cycle of h ticks.
@@ -121,7 +138,7 @@ fn start_next(
     let offsets = numbers::numbers_from(numbers, INVERSIONS);
     let mut at = [next, *release, offsets];
     match replay::one_start(image, kept, &mut at, front) {
-        NextStart::Stuck(_) => stop(numbers, 25, 0),
+        NextStart::Stuck(_) => stop(numbers, IMPOSSIBLE),
         NextStart::Starts(f) => {
             store_start(numbers, f);
             let cycle = numbers[CYCLE];
@@ -232,7 +249,7 @@ fn go_on_good(
 {
     let mut release = numbers::numbers_from(numbers, NEXT);
     if !measured(numbers, kept, &mut release) {
-        return stop(numbers, 25, 0);
+        return stop(numbers, IMPOSSIBLE);
     }
     let running = Running {
         task: numbers[TASK],
@@ -240,19 +257,19 @@ fn go_on_good(
         start: numbers[START],
     };
     if numbers[0] <= running.task {
-        return stop(numbers, 25, 0);
+        return stop(numbers, IMPOSSIBLE);
     }
     let i = running.task as usize;
     let t = numbers::task_from(numbers, 1 + TASK_NUMBERS * i);
     if !last_and_in_time(t, numbers[NEXT + i], running) {
-        return stop(numbers, 25, 0);
+        return stop(numbers, IMPOSSIBLE);
     }
     let began = absolute(numbers[CYCLE], kept[FIGURES][HYPERPERIOD], running.start);
     if end < began {
         return refused(21);
     }
     if (t.time as u64) < end - began {
-        return stop(numbers, 22, 0);
+        return stop(numbers, TOO_LATE);
     }
     next_turn(image, numbers, kept, &mut release, running.start + t.time)
 }
@@ -268,7 +285,7 @@ pub fn go_on_numbers(image: &[u8], numbers: &mut [u32; NUMBERS], end: u64) -> St
     let row = numbers::numbers_from(numbers, NEXT);
     let mut kept = [row, row, row, row, row, row];
     match sets::judge_kept(numbers[0], numbers, 1, &mut kept) {
-        SetAnswer::Refused(_) => stop(numbers, 25, 0),
+        SetAnswer::Refused(_) => stop(numbers, IMPOSSIBLE),
         SetAnswer::Good(_) => go_on_good(image, numbers, &kept, end),
     }
 }
@@ -309,7 +326,7 @@ pub fn begin_numbers(image: &[u8], numbers: &mut [u32; NUMBERS]) -> StartAnswer
     let mut kept = [[0u32; 16]; 6];
     let t = tables::judge(image, &mut kept);
     if t.refusal.number != 0 {
-        return stop(numbers, t.refusal.number, t.refusal.place);
+        return stop(numbers, t.refusal);
     }
     let set = t.set;
     let first = t.first;

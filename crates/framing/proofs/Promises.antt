@@ -8,10 +8,13 @@ use lib.ListN.{getD, drop}
 use Rattle.rules.specs.declared.Place.{Place}
 use Rattle.rules.specs.declared.Layout.{Layout}
 use Rattle.rules.specs.declared.Refusal.{Refusal}
+use Rattle.rules.specs.declared.Located.{Located}
 use Rattle.rules.specs.Refusals.{Judged, gives, refuses, or-else, unless}
 use Rattle.rules.specs.Marks.{head-count-of, head-length-of}
 use Rattle.rules.specs.Framing.{start-place, nothing-follows, index-of-end, frame-records, frame}
+use Rattle.rules.specs.Located.{bare, RefusedAt}
 use Rattle.rules.proofs.Cases.{clash, by-judged}
+use Rattle.rules.proofs.Locations.{refused-at, one-refused}
 use Rattle.rules.proofs.FramingTurns as turns
 use Rattle.framing.specs.declared.FrameAnswer.{FrameAnswer}
 use Rattle.framing.specs.declared.FrameAnswer.the-variants.{Framed, Refused}
@@ -21,17 +24,18 @@ use Rattle.framing.specs.Frames.{BehindTasks, TasksFramed, frame-answer}
 use Rattle.framing.proofs.FromPlace.{listed-from, refused-from}
 
 -- two results that meet the contract of `frame` are equal
-pub one-answer : (kind : ℕ) (bytes : List ℕ) (r q : FrameAnswer) → r ≡ frame-answer (frame kind bytes) → q ≡ frame-answer (frame kind bytes) → r ≡ q
+pub one-answer : (kind : ℕ) (bytes : List ℕ) (r q : FrameAnswer) → r ≡ frame-answer bytes (frame kind bytes) →
+    q ≡ frame-answer bytes (frame kind bytes) → r ≡ q
 one-answer kind bytes r q e f = e ∙ sym f
 
 -- what is framed has that layout, and what is refused that refusal
-pub framed-is : (z : Judged Layout) (l : Layout) → Framed l ≡ frame-answer z → z ≡ gives l
-framed-is (gives k) l e = let same : l ≡ k = cc in ap gives (sym same)
-framed-is (refuses q) l e = clash (cc)
+pub framed-is : (bytes : List ℕ) (z : Judged Layout) (l : Layout) → Framed l ≡ frame-answer bytes z → z ≡ gives l
+framed-is bytes (gives k) l e = let same : l ≡ k = cc in ap gives (sym same)
+framed-is bytes (refuses q) l e = clash (cc)
 
-pub refused-is : (z : Judged Layout) (r : Refusal) → Refused r ≡ frame-answer z → z ≡ refuses r
-refused-is (gives k) r e = clash (cc)
-refused-is (refuses q) r e = let same : r ≡ q = cc in ap refuses (sym same)
+pub refused-is : (bytes : List ℕ) (z : Judged Layout) (r : Located) → Refused r ≡ frame-answer bytes z → RefusedAt bytes z r
+refused-is bytes (gives k) r e = clash (cc)
+refused-is bytes (refuses q) r e = refused-at bytes q r (cc)
 
 -- the place behind n tasks
 abbrev behind : ℕ → Place
@@ -57,7 +61,7 @@ followed-place true number place l r e = clash (cc)
 followed-place false number place l r e = cc
 
 -- framing from there on refuses no task
-not-both : (kind : ℕ) (bytes : List ℕ) (s : Place) (r : Refusal) → TasksFramed kind bytes (tasks-case.Framed s) →
+not-both : (kind : ℕ) (bytes : List ℕ) (s : Place) (r : Located) → TasksFramed kind bytes (tasks-case.Framed s) →
     TasksFramed kind bytes (tasks-case.Refused r) → ⊥
 unfolding TasksFramed
 not-both kind bytes s r a b =
@@ -65,11 +69,11 @@ not-both kind bytes s r a b =
     let f = turns.frames kind s (drop (s .offset) bytes) in
     by-judged (frame-records kind start-place bytes)
     (λ l u.
-    let here = followed-place (nothing-follows bytes l) 10 (index-of-end l) l r (rw u at (b .0)) in
+    let here = followed-place (nothing-follows bytes l) 10 (index-of-end l) l (bare r) (rw u at (b .0 .judged)) in
     omega (arith, b .1, here, late, a .1 .index, listed-from f l (sym (a .0 .same) ∙ u) (omega (arith, a .1 .rank)) .0))
     (λ q u.
-    let same : _≡_ {A = Judged Layout} (refuses q) (refuses r) = rw u at (b .0) in
-    omega (arith, b .1, late, refused-from f r (sym (a .0 .same) ∙ u ∙ same)))
+    let same : _≡_ {A = Judged Layout} (refuses q) (refuses (bare r)) = rw u at (b .0 .judged) in
+    omega (arith, b .1, late, refused-from f (bare r) (sym (a .0 .same) ∙ u ∙ same)))
 
 -- two results that meet the contract of `frame_tasks` are equal
 pub one-tasks-answer : (kind : ℕ) (bytes : List ℕ) (r q : TasksAnswer) → TasksFramed kind bytes r → TasksFramed kind bytes q → r ≡ q
@@ -78,6 +82,4 @@ one-tasks-answer kind bytes (tasks-case.Framed s) (tasks-case.Framed t) a b = ap
 one-tasks-answer kind bytes (tasks-case.Framed s) (tasks-case.Refused r) a b = absurd (not-both kind bytes s r a b)
 one-tasks-answer kind bytes (tasks-case.Refused r) (tasks-case.Framed s) a b = absurd (not-both kind bytes s r b a)
 one-tasks-answer kind bytes (tasks-case.Refused r) (tasks-case.Refused q) a b =
-    let e : _≡_ {A = Judged Layout} (refuses r) (refuses q) = sym (a .0) ∙ b .0 in
-    let same : r ≡ q = cc in
-    ap tasks-case.Refused same
+    ap tasks-case.Refused (one-refused (a .0) (b .0))

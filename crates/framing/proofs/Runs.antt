@@ -2,6 +2,7 @@
 use mathlib.Core.Path.{_≡_, refl, sym, _∙_, ap, ap₂, subst}
 use mathlib.Core.Bool.{true, false}
 use mathlib.Core.List.{List}
+use mathlib.Core.Option.{some}
 use Prim.Native.Nat.{ℕ, zero, suc, _+_, _-_, _*_, _≤_, _<_}
 use native.Mathlib.Nat.{zero-mul, suc-mul}
 use native.Mathlib.Numerals.{add-one}
@@ -11,10 +12,10 @@ use lib.Dec.{leb, eqb}
 use lib.ListN.{length, getD, drop}
 use lib.Seq.{drop-drop}
 use Rattle.rules.specs.declared.Place.{Place}
-use Rattle.rules.specs.Marks.{Mark, TK, ID, PV, row, size, values}
+use Rattle.rules.specs.Marks.{Mark, TK, ID, PV, row, size, front-mark, values}
 use Rattle.rules.specs.Framing.{in-kind, may-follow, least-behind, rank-due, tasks-due, after-later, after, goes-on, frame-records}
 use Rattle.rules.proofs.Cases.{by-bool, by-nat, by-eq, by-le, both-true}
-use Rattle.rules.proofs.Marked.{behind-once, behind-many, allowed-found}
+use Rattle.rules.proofs.Marked.{behind-once, behind-many, mark-front, found-allowed, allowed-found}
 use Rattle.rules.proofs.FramingTurns as turns
 use Rattle.rules.proofs.Shapes.{in-later-turn}
 use Rattle.images.specs.declared.Row.{Row}
@@ -64,12 +65,16 @@ module _ {kind : ℕ} {bytes : List ℕ} {s : Place} (m : Mark) (re : Reached ki
         not-cut = leb-true (size m) (length rest) (a .0);
       }
 
+  -- and is the mark there
+  front : front-mark rest ≡ some m
+  front = let a = found-allowed kind s rest m (here .marked) in mark-front rest m (a .first-byte) (a .second-byte)
+
   -- framing comes to the place behind it
   pub past-record : (t : Place) → after kind s m (values m rest) ≡ goes-on t → Reached kind bytes t
   past-record t goes =
       let behind = turns.by-after kind s m (values m rest) goes in
       record {
-        placed = placed-after bytes (re .placed) (stands-whole bytes (s .offset) m stands) turn behind;
+        placed = placed-after bytes (re .placed) front (stands-whole bytes (s .offset) m stands) turn behind;
         same = re .same ∙ turns.frame-goes kind s rest m t here goes
             ∙ ap (frame-records kind t) (drop-drop (size m) (s .offset) bytes ∙ ap (λ (i : ℕ). drop i bytes) (sym (turns.moves behind .1)));
       }
@@ -181,7 +186,7 @@ module _ (m : Mark) (s : Place) (listed inversions many : ℕ) where
         inversions = inversions;
       } ≡ behind-run m s many listed inversions
   unfolding behind-run
-  some-passed r rank read some e = by-nat many (λ z. absurd (omega arith)) (λ j z. rw (read, e, z))
+  some-passed r rank read one e = by-nat many (λ z. absurd (omega arith)) (λ j z. rw (read, e, z))
 
 -- records with one mark between the tasks and EN, which may stand one behind the other: what is counted behind so many of them
 pub record Counted (kind : ℕ) (m : Mark) (s : Place) (listed inversions : ℕ → ℕ) : Type 0 where

@@ -1,6 +1,8 @@
--- The set of an image: tasks read one after the other fill the slots in turn, and are the tasks that the rule book reads. Assumes nothing.
+-- The set of an image: tasks read one after the other fill the slots in turn, and are the tasks that the rule book reads; and where
+-- a refusal of the set stands. Assumes nothing.
 use mathlib.Core.Path.{_≡_, refl, sym, _∙_, ap, ap₂}
 use mathlib.Core.List.{List, [], _∷_, _++_, map}
+use mathlib.Core.Option.{some}
 use Prim.Native.Nat.{ℕ, zero, suc, _+_, _-_, _*_, _≤_, _<_}
 use native.Mathlib.Nat.{add-zero}
 use native.Mathlib.Numerals.{add-one}
@@ -9,13 +11,18 @@ use lib.ListN.{length, set, take, drop, replicate, length-append, length-replica
 use lib.Seq.{set-at, append-snoc, drop-drop, take-at}
 use Rattle.rules.specs.declared.Task.{Task}
 use Rattle.rules.specs.declared.Layout.{Layout}
-use Rattle.rules.specs.Tasks.{limits}
+use Rattle.rules.specs.declared.Refusal.{Refusal}
+use Rattle.rules.specs.Tasks.{Set, limits, set-fault}
 use Rattle.rules.specs.Marks.{TS, TK, size, body-length, head-length-of}
-use Rattle.rules.specs.Image.{to-task}
+use Rattle.rules.specs.Image.{Record, image, to-task, head-records}
 use Rattle.rules.specs.Framing.{read, set-in}
+use Rattle.rules.specs.Located.{names-record, offset-of, located}
 use Rattle.rules.specs.Dispatcher.{zero-task}
+use Rattle.rules.proofs.Cases.{by-bool, by-nat}
+use Rattle.rules.proofs.RecordOffsets.{tasks-begin}
+use Rattle.rules.proofs.RefusalPlaces.{set-place}
 use Rattle.images.specs.Bodies.{part-of, task-of}
-use Rattle.framing.specs.SetRead.{tasks-at, set-read}
+use Rattle.framing.specs.SetRead.{tasks-at, set-read, set-located}
 use Rattle.images.proofs.BodyLaws.{task-body-is}
 
 module _ (bytes : List ℕ) where
@@ -86,3 +93,24 @@ module _ (bytes : List ℕ) where
   unfolding set-read
   set-tasks-are n h =
       take-at (tasks-at bytes (size TS) n) (replicate (limits .tasks - n) zero-task) n (tasks-length (size TS) n) ∙ tasks-read (size TS) n h
+
+-- a refusal at TS's place, and one at a later record of the head
+pub first-located : (r : Refusal) → r .place < 1 → record { number = r .number; place = r .place; offset = 0 } ≡ set-located r
+first-located r l = let here : r .place ≡ 0 = omega arith in rw here
+
+pub later-located : (r : Refusal) → 1 ≤ r .place →
+    record { number = r .number; place = r .place; offset = size TS + (r .place - 1) * size TK } ≡ set-located r
+later-located r l = by-nat (r .place) (λ z. absurd (omega arith)) (λ i z. let one-less : suc i - 1 ≡ i = omega arith in rw (z, one-less))
+
+-- a set's refusal is located so in an image that begins with the set
+pub set-located-there : (kind : ℕ) (bytes : List ℕ) (ts : Set) (qs : List Record) → bytes ≡ image (head-records kind ts ++ qs) → (r : Refusal) →
+    set-fault ts ≡ some r → set-located r ≡ located bytes r
+set-located-there kind bytes ts qs is r e =
+    let p = set-place ts r e in
+    by-bool (names-record (r .number))
+    (λ named. by-nat (r .place) (λ z. rw (named, z))
+    (λ i z.
+    let next : 1 + i ≡ suc i = omega arith in
+    let there : size TS + i * size TK ≡ offset-of (suc i) bytes = sym (rw is (rw next at (tasks-begin kind ts qs i (omega arith)))) in
+    rw (named, z) (λ k. record { number = r .number; place = suc i; offset = there k })))
+    (λ none-named. let z = p .1 none-named in rw (none-named, z))

@@ -1,5 +1,5 @@
 -- Framing of TS and the tasks: what is known at each place up to the one behind the last task. Assumes nothing.
-use mathlib.Core.Path.{_≡_, refl, sym, _∙_, ap}
+use mathlib.Core.Path.{_≡_, refl, _∙_, ap}
 use mathlib.Core.Bool.{true}
 use mathlib.Core.List.{List, [], _∷_}
 use mathlib.Core.Option.{none}
@@ -10,7 +10,7 @@ use lib.Dec.{leb, eqb}
 use lib.ListN.{length, getD, drop}
 use Rattle.rules.specs.declared.Place.{Place}
 use Rattle.rules.specs.declared.Layout.{Layout}
-use Rattle.rules.specs.declared.Refusal.{Refusal}
+use Rattle.rules.specs.declared.Located.{Located}
 use Rattle.rules.specs.Refusals.{unless}
 use Rattle.rules.specs.Tasks.{few-enough}
 use Rattle.rules.specs.Priority.{slot}
@@ -128,7 +128,7 @@ module _ (kind : ℕ) (bytes : List ℕ) (s : Place) (re : Reached kind bytes s)
         towards-after bytes (re .placed) w low (f .0 .inside) refl (g .its-turn) (turns.by-after kind s (g .mark) _ (g .goes))
 
     -- a refusal of the record is the image's, at TS or a task
-    pub refused-tasks : (q : Refusal) → r ≡ step-case.Refused q → TasksFramed kind bytes (Refused q)
+    pub refused-tasks : (q : Located) → r ≡ step-case.Refused q → TasksFramed kind bytes (Refused q)
     unfolding TasksFramed Steps
     refused-tasks q e =
         let here : q .place ≡ s .index = (rw e at steps) .1 in (
@@ -150,6 +150,6 @@ module _ (kind : ℕ) (bytes : List ℕ) (a : TasksAnswer) (framed : TasksFramed
   tasks-reached s e = rw e at framed
 
   -- and has the refusal that is answered
-  pub tasks-refused : (r : Refusal) → a ≡ Refused r → frame-case.Refused r ≡ frame-answer (frame kind bytes)
+  pub tasks-refused : (r : Located) → a ≡ Refused r → frame-case.Refused r ≡ frame-answer bytes (frame kind bytes)
   unfolding TasksFramed
-  tasks-refused r e = sym (ap frame-answer ((rw e at framed) .0))
+  tasks-refused r e = let w : TasksFramed kind bytes (Refused r) = rw e at framed in rw (w .0 .judged) (ap frame-case.Refused (w .0 .there))

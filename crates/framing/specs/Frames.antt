@@ -6,10 +6,12 @@ use Prim.Native.Nat.{ℕ, zero, suc, _+_, _*_, _≤_, _<_}
 use lib.ListN.{length, getD, drop}
 use Rattle.rules.specs.declared.Place.{Place}
 use Rattle.rules.specs.declared.Layout.{Layout}
+use Rattle.rules.specs.declared.Located.{Located}
 use Rattle.rules.specs.Refusals.{Judged, gives, refuses}
 use Rattle.rules.specs.Tasks.{limits}
 use Rattle.rules.specs.Marks.{Mark, TK, row, size, head-count-of, head-length-of, values}
 use Rattle.rules.specs.Framing.{Next, goes-on, ends, may-follow, least-behind, after, start-place, frame-records, index-of-end, frame}
+use Rattle.rules.specs.Located.{located, bare, RefusedAt, Begins}
 use Rattle.images.specs.Table.{stands-at}
 use Rattle.framing.specs.declared.Step.{Step}
 use Rattle.framing.specs.declared.Step.the-variants as step-case
@@ -18,9 +20,14 @@ use Rattle.framing.specs.declared.FrameAnswer.the-variants as frame-case
 use Rattle.framing.specs.declared.TasksAnswer.{TasksAnswer}
 use Rattle.framing.specs.declared.TasksAnswer.the-variants as tasks-case
 
--- a place in an image: inside it, and no more records before it than bytes; what is counted adds up to its index, in three stages: before TS, where TK
--- records are due, and behind them
+-- a refusal of the record at a place
+abbrev pub refusal-at : ℕ → Place → Located
+refusal-at number s = record { number = number; place = s .index; offset = s .offset }
+
+-- a place in an image: as many records before it as its index says, up to its offset, inside the image and no more than bytes; what is counted adds up to
+-- its index, in three stages: before TS, where TK records are due, and behind them
 pub record Placed (bytes : List ℕ) (s : Place) : Type 0 where
+  pub begins : Begins bytes (s .index) (s .offset)
   pub inside : s .offset ≤ length bytes
   pub few : s .index ≤ s .offset
   pub few-listed : s .listed + s .inversions ≤ s .index
@@ -37,10 +44,16 @@ pub record Whole (bytes : List ℕ) (s : Place) (m : Mark) : Type 0 where
 abbrev pub next-in : Step → Next
 next-in (step-case.GoesOn t) = goes-on t
 next-in (step-case.Ended l) = ends (gives l)
-next-in (step-case.Refused r) = ends (refuses r)
+next-in (step-case.Refused r) = ends (refuses (bare r))
+
+-- a refusal tells the record's offset
+abbrev pub TellsOffset : Place → Step → Type 0
+TellsOffset s (step-case.GoesOn t) = Unit {0}
+TellsOffset s (step-case.Ended l) = Unit {0}
+TellsOffset s (step-case.Refused r) = r .offset ≡ s .offset
 
 unfoldable pub Follows : ℕ → List ℕ → Place → Mark → Step → Type 0
-Follows kind bytes s m r = next-in r ≡ after kind s m (values m (drop (s .offset) bytes))
+Follows kind bytes s m r = (next-in r ≡ after kind s m (values m (drop (s .offset) bytes))) × TellsOffset s r
 
 -- the place behind so many records with one mark, with what is counted then
 unfoldable pub behind-run : Mark → Place → ℕ → ℕ → ℕ → Place
@@ -66,14 +79,16 @@ pub record Passes (kind : ℕ) (bytes : List ℕ) (s t : Place) : Type 0 where
   pub its-turn : may-follow (s .rank) (row mark .rank) ≡ true
   pub goes : after kind s mark (values mark (drop (s .offset) bytes)) ≡ goes-on t
 
--- a record moves framing to a later place from which it comes to the same; or framing comes to this: EN behind the tasks, or a refusal of this record
+-- a record moves framing to a later place from which it comes to the same; or framing comes to this: EN behind the tasks, or a refusal of this record, with
+-- its index and its offset
 unfoldable pub Steps : ℕ → List ℕ → Place → Step → Type 0
 Steps kind bytes s (step-case.GoesOn t) =
     Placed bytes t × (s .offset < t .offset) × (frame-records kind s (drop (s .offset) bytes) ≡ frame-records kind t (drop (t .offset) bytes))
     × Passes kind bytes s t
 Steps kind bytes s (step-case.Ended l) =
     (frame-records kind s (drop (s .offset) bytes) ≡ gives l) × (index-of-end l ≡ s .index) × (2 ≤ s .rank)
-Steps kind bytes s (step-case.Refused r) = (frame-records kind s (drop (s .offset) bytes) ≡ refuses r) × (r .place ≡ s .index)
+Steps kind bytes s (step-case.Refused r) =
+    (frame-records kind s (drop (s .offset) bytes) ≡ refuses (bare r)) × (r .place ≡ s .index) × (r .offset ≡ s .offset)
 
 -- a place that framing comes to: from here on it comes to what it comes to from the start
 pub record Reached (kind : ℕ) (bytes : List ℕ) (s : Place) : Type 0 where
@@ -116,8 +131,9 @@ pub record BehindTasks (bytes : List ℕ) (s : Place) : Type 0 where
 -- framing of TS and the tasks comes to the place behind them, or the image is refused at one of these records
 unfoldable pub TasksFramed : ℕ → List ℕ → TasksAnswer → Type 0
 TasksFramed kind bytes (tasks-case.Framed s) = Reached kind bytes s × BehindTasks bytes s
-TasksFramed kind bytes (tasks-case.Refused r) = (frame kind bytes ≡ refuses r) × (r .place ≤ getD bytes 4 0)
+TasksFramed kind bytes (tasks-case.Refused r) = RefusedAt bytes (frame kind bytes) r × (r .place ≤ getD bytes 4 0)
 
-abbrev pub frame-answer : Judged Layout → FrameAnswer
-frame-answer (gives l) = frame-case.Framed l
-frame-answer (refuses r) = frame-case.Refused r
+-- what framing comes to, a refusal located in the image
+abbrev pub frame-answer : List ℕ → Judged Layout → FrameAnswer
+frame-answer bytes (gives l) = frame-case.Framed l
+frame-answer bytes (refuses r) = frame-case.Refused (located bytes r)

@@ -18,6 +18,7 @@ use images::row_of;
 use images::size_of;
 use images::task_body;
 use rules::Layout;
+use rules::Located;
 use rules::NO_TASK;
 use rules::Place;
 use rules::Refusal;
@@ -25,14 +26,13 @@ use rules::TaskSet;
 ghost use mathlib.Core.Path.{_≡_};
 ghost use Prim.Native.Nat.{_<_, _≤_};
 ghost use lib.ListN.{length};
-ghost use Rattle.rules.specs.Refusals.{refusal};
 ghost use Rattle.rules.specs.Marks as book-marks;
 ghost use Rattle.rules.specs.Framing.{frame as frame-of};
 ghost use Rattle.images.specs.Table.{mark-of};
 ghost use Rattle.framing.specs.Allowed.{kind-at, allowed-at};
-ghost use Rattle.framing.specs.Frames.{Placed, Whole, Follows, Steps, Room, behind-run, Reached, RunOf, TowardsTasks, TasksPassed, TasksFramed};
+ghost use Rattle.framing.specs.Frames.{refusal-at, Placed, Whole, Follows, Steps, Room, behind-run, Reached, RunOf, TowardsTasks, TasksPassed, TasksFramed};
 ghost use Rattle.framing.specs.Frames.{frame-answer};
-ghost use Rattle.framing.specs.SetRead.{set-read};
+ghost use Rattle.framing.specs.SetRead.{set-read, set-located};
 
 // The bytes of a body of TS, TK and EN.
 const HEAD_BODY: usize = ROWS[TS].body;
@@ -72,13 +72,24 @@ fn allowed(kind: u32, least: usize, k: usize) -> bool
 pub enum Step {
     GoesOn(Place),
     Ended(Layout),
-    Refused(Refusal),
+    Refused(Located),
 }
 
-fn refuses(number: u32, place: usize) -> Step
-    ensures { λ r. ⌜ r ≡ Step.Refused (refusal number place) ⌝ }
+// A refusal of the record at a place.
+fn refusal_at(number: u32, s: Place) -> Located
+    ensures { λ r. ⌜ r ≡ refusal-at number s ⌝ }
 {
-    Step::Refused(Refusal { number, place })
+    Located {
+        number,
+        place: s.index,
+        offset: s.offset,
+    }
+}
+
+fn refuses(number: u32, s: Place) -> Step
+    ensures { λ r. ⌜ r ≡ Step.Refused (refusal-at number s) ⌝ }
+{
+    Step::Refused(refusal_at(number, s))
 }
 
 // TS: 3, 4 and 5, then n tasks are due.
@@ -88,16 +99,16 @@ fn after_head(image: &[u8], kind: u32, s: Place) -> Step
 {
     let h = head_body(part(image, s.offset + 2, HEAD_BODY));
     if h.edition != 1 {
-        return refuses(3, s.index);
+        return refuses(3, s);
     }
     if h.kind != kind {
-        return refuses(4, s.index);
+        return refuses(4, s);
     }
     if h.n < 1 {
-        return refuses(5, s.index);
+        return refuses(5, s);
     }
     if 16 < h.n {
-        return refuses(5, s.index);
+        return refuses(5, s);
     }
     let n = h.n as usize;
     Step::GoesOn(Place {
@@ -164,7 +175,7 @@ fn after_end(image: &[u8], kind: u32, s: Place) -> Step
 {
     let number = end_body(part(image, s.offset + 2, END_BODY)) as usize;
     if number != s.index {
-        return refuses(10, s.index);
+        return refuses(10, s);
     }
     Step::Ended(Layout {
         tasks: s.tasks,
@@ -199,24 +210,24 @@ fn step_at(image: &[u8], kind: u32, s: Place) -> Step
     let at = s.offset;
     let left = image.len() - at;
     if left < 2 {
-        return refuses(1, s.index);
+        return refuses(1, s);
     }
     let k = mark(image[at], image[at + 1]);
     if MARKS <= k {
-        return refuses(2, s.index);
+        return refuses(2, s);
     }
     if !allowed(kind, s.rank, k) {
-        return refuses(2, s.index);
+        return refuses(2, s);
     }
     if left < size_of(k) {
-        return refuses(1, s.index);
+        return refuses(1, s);
     }
     after(image, kind, s, k)
 }
 
 pub enum FrameAnswer {
     Framed(Layout),
-    Refused(Refusal),
+    Refused(Located),
 }
 
 // How many whole records with a mark stand one behind the other from a place on, counted up to a bound.
@@ -267,7 +278,7 @@ fn past_tasks(image: &[u8], kind: u32, s: Place) -> Place
 // TS and the tasks framed: the place behind them.
 pub enum TasksAnswer {
     Framed(Place),
-    Refused(Refusal),
+    Refused(Located),
 }
 
 // Framing of TS and the tasks.
@@ -295,10 +306,7 @@ pub fn frame_tasks(image: &[u8], kind: u32) -> TasksAnswer
                 break 'records TasksAnswer::Refused(r);
             }
             Step::Ended(_) => {
-                break 'records TasksAnswer::Refused(Refusal {
-                    number: 2,
-                    place: s.index,
-                });
+                break 'records TasksAnswer::Refused(refusal_at(2, s));
             }
         }
     }
@@ -307,7 +315,7 @@ pub fn frame_tasks(image: &[u8], kind: u32) -> TasksAnswer
 // Framing from a place that it comes to: record by record, left from inside with the first refusal or at EN, behind which nothing may follow.
 pub fn frame_from(image: &[u8], kind: u32, place: Place) -> FrameAnswer
     requires { ⌜ Reached kind (now image) place ⌝ }
-    ensures { λ r. ⌜ r ≡ frame-answer (frame-of kind (now (image .entry))) ⌝ }
+    ensures { λ r. ⌜ r ≡ frame-answer (now (image .entry)) (frame-of kind (now (image .entry))) ⌝ }
 {
     let mut s = place;
     'records: loop {
@@ -320,10 +328,7 @@ pub fn frame_from(image: &[u8], kind: u32, place: Place) -> FrameAnswer
             }
             Step::Ended(l) => {
                 if l.ended < image.len() {
-                    break 'records FrameAnswer::Refused(Refusal {
-                        number: 10,
-                        place: s.index,
-                    });
+                    break 'records FrameAnswer::Refused(refusal_at(10, s));
                 }
                 break 'records FrameAnswer::Framed(l);
             }
@@ -333,7 +338,7 @@ pub fn frame_from(image: &[u8], kind: u32, place: Place) -> FrameAnswer
 
 // Framing of a whole image of tables: its runs of ID and PV records at once.
 pub fn frame(image: &[u8]) -> FrameAnswer
-    ensures { λ r. ⌜ r ≡ frame-answer (frame-of 2 (now (image .entry))) ⌝ }
+    ensures { λ r. ⌜ r ≡ frame-answer (now (image .entry)) (frame-of 2 (now (image .entry))) ⌝ }
 {
     match frame_tasks(image, 2) {
         TasksAnswer::Refused(r) => FrameAnswer::Refused(r),
@@ -347,6 +352,22 @@ pub fn frame(image: &[u8]) -> FrameAnswer
                 past(t, PV, inversions, t.listed, t.inversions + inversions),
             )
         }
+    }
+}
+
+// A set's refusal located in the image that the set is read from: its place is the index of TS or of a task's TK.
+pub fn set_refused(r: Refusal) -> Located
+    requires { ⌜ r .place ≤ 16 ⌝ }
+    ensures { λ l. ⌜ l ≡ set-located r ⌝ }
+{
+    let mut offset: usize = 0;
+    if 0 < r.place {
+        offset = HEAD_SIZE + (r.place - 1) * TASK_SIZE;
+    }
+    Located {
+        number: r.number,
+        place: r.place,
+        offset,
     }
 }
 

@@ -1,5 +1,5 @@
 -- What `hv_begin` and `hv_go_on` return and leave, over every result that meets their contracts. Assumes nothing.
-use mathlib.Core.Path.{_≡_, refl, sym, _∙_, ap}
+use mathlib.Core.Path.{_≡_, refl, sym, _∙_, ap, subst}
 use mathlib.Core.Logic.{_↔_, _⊎_, inl, inr}
 use mathlib.Core.List.{List}
 use mathlib.Core.Option.{none, some}
@@ -8,6 +8,7 @@ use native.Mathlib.Omega.{arith}
 use lib.ListN.{length, replicate}
 use Rattle.fields.specs.Number.{Bytes}
 use Rattle.rules.specs.declared.Refusal.{Refusal}
+use Rattle.rules.specs.declared.Located.{Located}
 use Rattle.rules.specs.declared.Start.{Start as StartOf}
 use Rattle.rules.specs.declared.CheckAnswer.{CheckAnswer}
 use Rattle.rules.specs.declared.CheckAnswer.the-variants as check-case
@@ -16,6 +17,7 @@ use Rattle.rules.specs.declared.StartAnswer.the-variants.{Start, Refused}
 use Rattle.rules.specs.declared.Dispatcher.{Dispatcher as State}
 use Rattle.rules.specs.declared.Turn.{Turn}
 use Rattle.rules.specs.Refusals.{refusal, First, check-tells, start-tells}
+use Rattle.rules.specs.Located.{bare}
 use Rattle.rules.specs.Operations.{check-tables}
 use Rattle.rules.specs.Dispatcher.{numbers, number-count, stopped, begin, go-on}
 use Rattle.rules.specs.GoingOn.{going-tests, start-refusal, Leaves, end-before-start, end-too-late, was-stopped, all-done, impossible}
@@ -25,7 +27,7 @@ use Rattle.rules.proofs.BeginOrder.{refused-stopped}
 use Rattle.rules.proofs.Promises as book
 use Rattle.numbers.specs.Numbers.{state-from}
 use Rattle.numbers.proofs.StateNumbers.{numbers-of-state}
-use Rattle.hervantyu.specs.Lent.{TablesChecked, start-or, TurnTold, Begun, GoneOn}
+use Rattle.hervantyu.specs.Lent.{location-of, TablesChecked, start-or, TurnTold, Begun, GoneOn}
 use Rattle.hervantyu.proofs.Returned.{Returned, refused-with, zero-exactly, refusal-exactly, start-returned}
 
 -- the stopped state's numbers are all 0
@@ -33,26 +35,28 @@ stopped-numbers : numbers stopped ≡ replicate number-count 0
 stopped-numbers = refl
 
 -- the start after a refusal
-refused-start : {turn : Turn} {old-start start state : List ℕ} {r : ℕ} → TurnTold turn old-start r start state → (q : Refusal) → turn .answer ≡ Refused q →
+refused-start : {turn : Turn} {old-start start state : List ℕ} {r : ℕ} → TurnTold turn old-start r start state → (q : Located) → turn .answer ≡ Refused q →
     start ≡ old-start
 refused-start {old-start = old-start} told q e = told .told .its-start ∙ ap (λ (a : StartAnswer). start-or a old-start) e
 
 -- `hv_begin`
-module _ {image old-start : List ℕ} {r p : ℕ} {start state : List ℕ} (begun : Begun image old-start r p start state) where
-  -- it returns what `hv_check_tables` does, and leaves it in the place
-  pub begin-checks : Bytes image → TablesChecked image r p
+module _ {image old-start : List ℕ} {r : ℕ} {w start state : List ℕ} (begun : Begun image old-start r w start state) where
+  -- it returns what `hv_check_tables` does, and leaves it in the location
+  pub begin-checks : Bytes image → TablesChecked image r w
   begin-checks are-bytes = by-check (check-tables image) refl
     where
       told : {a : StartAnswer} {c : CheckAnswer} → begin image .answer ≡ a → check-tables image ≡ c → start-tells a .number ≡ check-tells c .number →
-          start-tells a .place ≡ check-tells c .place → TablesChecked image r p
-      told e f number place = record {
+          location-of (start-tells a) ≡ location-of (check-tells c) → TablesChecked image r w
+      told e f number location = record {
         its-number =
             begun .turn-told .told .its-number ∙ ap (λ (x : StartAnswer). start-tells x .number) e ∙ number
             ∙ sym (ap (λ (x : CheckAnswer). check-tells x .number) f);
-        its-place = begun .its-place ∙ ap (λ (x : StartAnswer). start-tells x .place) e ∙ place ∙ sym (ap (λ (x : CheckAnswer). check-tells x .place) f);
+        its-location =
+            begun .its-location ∙ ap (λ (x : StartAnswer). location-of (start-tells x)) e ∙ location
+            ∙ sym (ap (λ (x : CheckAnswer). location-of (check-tells x)) f);
       }
 
-      by-check : (c : CheckAnswer) → check-tables image ≡ c → TablesChecked image r p
+      by-check : (c : CheckAnswer) → check-tables image ≡ c → TablesChecked image r w
       by-check check-case.Accepted c = told (book.beginning-starts image are-bytes c .1) c refl refl
       by-check (check-case.Refused q) c = told (ap (λ (t : Turn). t .answer) (book.beginning-refuses image q c)) c refl refl
 
@@ -66,10 +70,10 @@ module _ {image old-start : List ℕ} {r p : ℕ} {start state : List ℕ} (begu
       by-answer (Refused q) e =
           (refused-start (begun .turn-told) q e, begun .turn-told .its-numbers ∙ ap numbers (refused-stopped image q e) ∙ stopped-numbers)
 
--- an answer and the refusal in it
-refused-in : (a : StartAnswer) (q : Refusal) → (a ≡ Refused q) ↔ (start-refusal a ≡ some q)
-refused-in (Start s) q = (λ e. clash (cc), λ e. clash (cc))
-refused-in (Refused w) q = (λ e. cc, λ e. let same : w ≡ q = cc in ap Refused same)
+-- the refusal in an answer is what it refuses
+refusing : (a : StartAnswer) (q : Refusal) → start-refusal a ≡ some q → (w : Located) × (a ≡ Refused w) × (bare w ≡ q)
+refusing (Start s) q e = clash (cc)
+refusing (Refused w) q e = (w, refl, cc)
 
 -- and none in a start
 none-in : (a : StartAnswer) → ((s : StartOf) × (a ≡ Start s)) ↔ (start-refusal a ≡ none)
@@ -82,11 +86,18 @@ module _ (image old-state : List ℕ) (end : ℕ) {old-start start state : List 
   abbrev turn : Turn
   turn = go-on image (state-from old-state) end
 
+  -- a refusal has one of the numbers of going on, and leaves the state as that says
+  leaving : (q : Refusal) → start-refusal (turn .answer) ≡ some q → (21 ≤ q .number) × (q .number ≤ 25) × Leaves (state-from old-state) (q .number) (turn .state)
+  leaving q e =
+      let (w, is, same) = refusing (turn .answer) q e in
+      let l = book.going-on-leaves image (state-from old-state) end w is in
+      let its : (21 ≤ w .number) × (w .number ≤ 25) × Leaves (state-from old-state) (w .number) (turn .state) = (l .0, l .1, l .4) in
+      subst (λ (x : Refusal). (21 ≤ x .number) × (x .number ≤ 25) × Leaves (state-from old-state) (x .number) (turn .state)) same its
+
   -- what is returned says what going on answers, with place 0
-  pub returned-go-on : Returned ((s : StartOf) × (turn .answer ≡ Start s)) (λ q. turn .answer ≡ Refused q) r 0
+  pub returned-go-on : Returned ((s : StartOf) × (turn .answer ≡ Start s)) (λ q. start-refusal (turn .answer) ≡ some q) r 0
   returned-go-on =
-      start-returned (turn .answer) (gone-on .told .its-number) (no-place (turn .answer) refl)
-      (λ q e. let leaves = book.going-on-leaves image (state-from old-state) end q e in omega (arith, leaves .0))
+      start-returned (turn .answer) (gone-on .told .its-number) (no-place (turn .answer) refl) (λ q e. omega (arith, leaving q e .0))
     where
       no-place : (a : StartAnswer) → turn .answer ≡ a → 0 ≡ start-tells a .place
       no-place (Start s) e = refl
@@ -102,8 +113,8 @@ module _ (image old-state : List ℕ) (end : ℕ) {old-start start state : List 
   -- another number exactly where that is the first test that refuses
   pub go-on-refuses : (q : Refusal) → ((1 ≤ r) × (refusal r 0 ≡ q)) ↔ First (going-tests image (state-from old-state) end) (some q)
   go-on-refuses q = (
-    λ w. rw (refused-in (turn .answer) q .0 (refusal-exactly returned-go-on q .0 w)) at (book.going-on-order image (state-from old-state) end),
-    λ f. refusal-exactly returned-go-on q .1 (refused-in (turn .answer) q .1 (one-first (book.going-on-order image (state-from old-state) end) f)),
+    λ w. rw (refusal-exactly returned-go-on q .0 w) at (book.going-on-order image (state-from old-state) end),
+    λ f. refusal-exactly returned-go-on q .1 (one-first (book.going-on-order image (state-from old-state) end) f),
   )
 
   -- the numbers are 0 and 21 to 25
@@ -112,18 +123,19 @@ module _ (image old-state : List ℕ) (end : ℕ) {old-start start state : List 
       elim (returned-go-on .either) [
         | inl g ↦ inl (returned-go-on .given g .0)
         | inr w ↦
-            let leaves = book.going-on-leaves image (state-from old-state) end (w .0) (w .1) in
+            let leaves = leaving (w .0) (w .1) in
             let is = ap (λ (q : Refusal). q .number) (returned-go-on .refused (w .0) (w .1) .1) in
             inr (omega (arith, leaves .0, is), omega (arith, leaves .1, is))
       ]
 
   -- a refusal leaves the start as it was
   pub go-on-keeps-start : 1 ≤ r → start ≡ old-start
-  go-on-keeps-start l = refused-start gone-on (refusal r 0) (refused-with returned-go-on l)
+  go-on-keeps-start l =
+      let (w, is, same) = refusing (turn .answer) (refusal r 0) (refused-with returned-go-on l) in refused-start gone-on w is
 
   -- and the state as its number says
   leaves : 1 ≤ r → Leaves (state-from old-state) r (turn .state)
-  leaves l = book.going-on-leaves image (state-from old-state) end (refusal r 0) (refused-with returned-go-on l) .3
+  leaves l = leaving (refusal r 0) (refused-with returned-go-on l) .2
 
   -- 21, 23 and 24 leave every number of the state as it was
   pub go-on-keeps-state : length old-state ≡ number-count → (r ≡ 21) ⊎ ((r ≡ 23) ⊎ (r ≡ 24)) → state ≡ old-state

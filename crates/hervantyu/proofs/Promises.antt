@@ -23,7 +23,7 @@ use Rattle.rules.specs.Operations.{read-timetable}
 use Rattle.rules.specs.Dispatcher.{number-count}
 use Rattle.rules.specs.GoingOn.{going-tests}
 use Rattle.rules.specs.Calls.{all-starts}
-use Rattle.rules.specs.Promised.{TimetableImage, TableImage, RefusesTimetableImage, RefusesTableImage, BothImages, RefusesDeriving, RefusesRebuilding}
+use Rattle.rules.specs.Promised.{TimetableImage, TableImage, RefusesTimetableImage, RefusesTableImage, TheByte, BothImages, RefusesDeriving, RefusesRebuilding}
 use Rattle.rules.proofs.Promises as book
 use Rattle.numbers.specs.Numbers.{set-from, state-from}
 use Rattle.sets.specs.Sets.{GoodInMemory}
@@ -54,35 +54,36 @@ one-set-outcome a b = (
   same (a .its-jobs) (b .its-jobs),
 )
 
--- two outcomes of plain checking that answers the same are equal: the number and the place
-pub one-check-outcome : {answer : CheckAnswer} {r p r′ p′ : ℕ} → CheckTold answer r p → CheckTold answer r′ p′ → (r ≡ r′) × (p ≡ p′)
-one-check-outcome a b = (same (a .its-number) (b .its-number), same (a .its-place) (b .its-place))
+-- two outcomes of plain checking that answers the same are equal: the number and the location, that is the place and the byte offset
+pub one-check-outcome : {answer : CheckAnswer} {r r′ : ℕ} {w w′ : List ℕ} → CheckTold answer r w → CheckTold answer r′ w′ → (r ≡ r′) × (w ≡ w′)
+one-check-outcome a b = (same (a .its-number) (b .its-number), same (a .its-location) (b .its-location))
 
--- two outcomes of deriving or rebuilding that answers the same are equal: the number, the place, what the lent length holds, and every byte of the output
-pub one-written-outcome : {answer : MakeAnswer} {after out out′ : List ℕ} {old-length r p l r′ p′ l′ : ℕ} →
-    Written answer after old-length r p l out → Written answer after old-length r′ p′ l′ out′ → (r ≡ r′) × (p ≡ p′) × (l ≡ l′) × (out ≡ out′)
+-- two outcomes of deriving or rebuilding that answers the same are equal: the number, the location, what the lent length holds, and every byte of the output
+pub one-written-outcome : {answer : MakeAnswer} {after out out′ w w′ : List ℕ} {old-length r l r′ l′ : ℕ} →
+    Written answer after old-length r w l out → Written answer after old-length r′ w′ l′ out′ → (r ≡ r′) × (w ≡ w′) × (l ≡ l′) × (out ≡ out′)
 one-written-outcome a b = (
   same (a .told .its-number) (b .told .its-number),
-  same (a .told .its-place) (b .told .its-place),
+  same (a .told .its-location) (b .told .its-location),
   same (a .told .its-length) (b .told .its-length),
   same (a .its-output) (b .its-output),
 )
 
 -- so are those of the functions themselves
-pub one-timetable-outcome : (image : List ℕ) {r p r′ p′ : ℕ} → TimetableChecked image r p → TimetableChecked image r′ p′ → (r ≡ r′) × (p ≡ p′)
+pub one-timetable-outcome : (image : List ℕ) {r r′ : ℕ} {w w′ : List ℕ} → TimetableChecked image r w → TimetableChecked image r′ w′ →
+    (r ≡ r′) × (w ≡ w′)
 one-timetable-outcome image = one-check-outcome
 
-pub one-tables-outcome : (image : List ℕ) {r p r′ p′ : ℕ} → TablesChecked image r p → TablesChecked image r′ p′ → (r ≡ r′) × (p ≡ p′)
+pub one-tables-outcome : (image : List ℕ) {r r′ : ℕ} {w w′ : List ℕ} → TablesChecked image r w → TablesChecked image r′ w′ → (r ≡ r′) × (w ≡ w′)
 one-tables-outcome image = one-check-outcome
 
-pub one-derive-outcome : (image old-output : List ℕ) {old-length r p l r′ p′ l′ : ℕ} {out out′ : List ℕ} →
-    Derived image old-output old-length r p l out → Derived image old-output old-length r′ p′ l′ out′ →
-    (r ≡ r′) × (p ≡ p′) × (l ≡ l′) × (out ≡ out′)
+pub one-derive-outcome : (image old-output : List ℕ) {old-length r l r′ l′ : ℕ} {w w′ out out′ : List ℕ} →
+    Derived image old-output old-length r w l out → Derived image old-output old-length r′ w′ l′ out′ →
+    (r ≡ r′) × (w ≡ w′) × (l ≡ l′) × (out ≡ out′)
 one-derive-outcome image old-output = one-written-outcome
 
-pub one-rebuild-outcome : (image old-output : List ℕ) {old-length r p l r′ p′ l′ : ℕ} {out out′ : List ℕ} →
-    Rebuilt image old-output old-length r p l out → Rebuilt image old-output old-length r′ p′ l′ out′ →
-    (r ≡ r′) × (p ≡ p′) × (l ≡ l′) × (out ≡ out′)
+pub one-rebuild-outcome : (image old-output : List ℕ) {old-length r l r′ l′ : ℕ} {w w′ out out′ : List ℕ} →
+    Rebuilt image old-output old-length r w l out → Rebuilt image old-output old-length r′ w′ l′ out′ →
+    (r ≡ r′) × (w ≡ w′) × (l ≡ l′) × (out ≡ out′)
 one-rebuild-outcome image old-output = one-written-outcome
 
 -- two outcomes of a turn of the dispatcher are equal: the number, what the lent start holds, and every number of the state
@@ -94,12 +95,12 @@ one-turn-outcome a b = (
   same (a .its-numbers) (b .its-numbers),
 )
 
--- so are those of `hv_begin`, with the place
-pub one-begin-outcome : {image old-start s s′ d d′ : List ℕ} {r p r′ p′ : ℕ} →
-    Begun image old-start r p s d → Begun image old-start r′ p′ s′ d′ → (r ≡ r′) × (p ≡ p′) × (s ≡ s′) × (d ≡ d′)
+-- so are those of `hv_begin`, with the location
+pub one-begin-outcome : {image old-start w w′ s s′ d d′ : List ℕ} {r r′ : ℕ} →
+    Begun image old-start r w s d → Begun image old-start r′ w′ s′ d′ → (r ≡ r′) × (w ≡ w′) × (s ≡ s′) × (d ≡ d′)
 one-begin-outcome a b =
     let turn = one-turn-outcome (a .turn-told) (b .turn-told) in
-    (turn .0, same (a .its-place) (b .its-place), turn .1, turn .2)
+    (turn .0, same (a .its-location) (b .its-location), turn .1, turn .2)
 
 -- and those of `hv_go_on`
 pub one-go-on-outcome : (image old-state : List ℕ) (end : ℕ) {old-start s s′ d d′ : List ℕ} {r r′ : ℕ} →
@@ -131,18 +132,22 @@ module _ {n : ℕ} {numbers : List ℕ} {old-hyperperiod old-jobs r p h j : ℕ}
 
 -- DEMANDS 1 AND 2, hv_check_timetable
 
-module _ (image : List ℕ) {r p : ℕ} (checked : TimetableChecked image r p) where
+module _ (image : List ℕ) {r : ℕ} {w : List ℕ} (checked : TimetableChecked image r w) where
   -- returns 0 exactly where the bytes are the image of a good set and a valid timetable
   pub timetable-accepted-exactly : Bytes image → (r ≡ 0) ↔ ((ts : Set) × (τ : List Entry) × TimetableImage image ts τ)
   timetable-accepted-exactly b = Iff·trans (zero-exactly (face-images.returned-timetable image checked)) (book.accepted-timetables image b)
 
-  -- with 0 the place is 0
-  pub timetable-accepted-place : r ≡ 0 → p ≡ 0
-  timetable-accepted-place = zero-place (face-images.returned-timetable image checked)
+  -- with 0 the place and the byte offset are 0
+  pub timetable-accepted-location : r ≡ 0 → w ≡ 0 ∷ 0 ∷ []
+  timetable-accepted-location = face-images.timetable-nowhere image checked
 
   -- returns another number and leaves a place exactly where the document's order comes to them first
-  pub timetable-refused-exactly : (q : Refusal) → ((1 ≤ r) × (refusal r p ≡ q)) ↔ RefusesTimetableImage image q
+  pub timetable-refused-exactly : (q : Refusal) → ((1 ≤ r) × (refusal r (slot w 0) ≡ q)) ↔ RefusesTimetableImage image q
   timetable-refused-exactly q = Iff·trans (refusal-exactly (face-images.returned-timetable image checked) q) (book.timetable-order image q)
+
+  -- R-2: behind the place it leaves the byte at which the record begins that the place names, 0 where it names none
+  pub timetable-tells-the-byte : Bytes image → TheByte 1 image r (slot w 0) (slot w 1)
+  timetable-tells-the-byte = face-images.timetable-byte image checked
 
   -- returns 0 to 16
   pub timetable-returns : r ≤ 16
@@ -150,18 +155,22 @@ module _ (image : List ℕ) {r p : ℕ} (checked : TimetableChecked image r p) w
 
 -- DEMANDS 1 AND 2, hv_check_tables
 
-module _ (image : List ℕ) {r p : ℕ} (checked : TablesChecked image r p) where
+module _ (image : List ℕ) {r : ℕ} {w : List ℕ} (checked : TablesChecked image r w) where
   -- returns 0 exactly where some valid timetable of a good set has those tables
   pub tables-accepted-exactly : Bytes image → (r ≡ 0) ↔ ((ts : Set) × (τ : List Entry) × TableImage image ts τ)
   tables-accepted-exactly b = Iff·trans (zero-exactly (face-images.returned-tables image checked)) (book.accepted-tables image b)
 
-  -- with 0 the place is 0
-  pub tables-accepted-place : r ≡ 0 → p ≡ 0
-  tables-accepted-place = zero-place (face-images.returned-tables image checked)
+  -- with 0 the place and the byte offset are 0
+  pub tables-accepted-location : r ≡ 0 → w ≡ 0 ∷ 0 ∷ []
+  tables-accepted-location = face-images.tables-nowhere image checked
 
   -- returns another number and leaves a place exactly where the document's order comes to them first
-  pub tables-refused-exactly : (q : Refusal) → ((1 ≤ r) × (refusal r p ≡ q)) ↔ RefusesTableImage image q
+  pub tables-refused-exactly : (q : Refusal) → ((1 ≤ r) × (refusal r (slot w 0) ≡ q)) ↔ RefusesTableImage image q
   tables-refused-exactly q = Iff·trans (refusal-exactly (face-images.returned-tables image checked) q) (book.table-order image q)
+
+  -- R-2: behind the place it leaves the byte at which the record begins that the place names, 0 where it names none
+  pub tables-tell-the-byte : Bytes image → TheByte 2 image r (slot w 0) (slot w 1)
+  tables-tell-the-byte = face-images.tables-byte image checked
 
   -- returns 0 to 10, or 17 to 19
   pub tables-returns : (r ≤ 10) ⊎ ((17 ≤ r) × (r ≤ 19))
@@ -173,20 +182,24 @@ only-one-timetable = book.only-one-timetable
 
 -- DEMANDS 1 AND 2, hv_derive
 
-module _ (image old : List ℕ) {old-length r p l : ℕ} {out : List ℕ} (derived : Derived image old old-length r p l out) where
+module _ (image old : List ℕ) {old-length r l : ℕ} {w out : List ℕ} (derived : Derived image old old-length r w l out) where
   -- returns 0 exactly where the bytes are a timetable's image and the output has room for that of its tables
   pub derive-accepted-exactly : Bytes image → (r ≡ 0) ↔ ((result : List ℕ) × BothImages image result × (length result ≤ length old))
   derive-accepted-exactly = face-images.derive-zero image old derived
 
-  -- with 0 the place is 0, the length is that of the tables' image, it fills the front of the output, and later bytes keep their values
+  -- with 0 the place and the byte offset are 0, the length is that of the tables' image, it fills the front of the output, and later bytes keep their values
   pub derive-writes-exactly : r ≡ 0 → {result : List ℕ} → BothImages image result →
-      (p ≡ 0) × (l ≡ length result) × (out ≡ result ++ drop (length result) old)
+      (w ≡ 0 ∷ 0 ∷ []) × (l ≡ length result) × (out ≡ result ++ drop (length result) old)
   derive-writes-exactly e both =
-      let w = face-images.derive-fits image old derived both (face-images.derive-room image old derived e both) in (w .1, w .2, w .3)
+      let f = face-images.derive-fits image old derived both (face-images.derive-room image old derived e both) in (f .1, f .2, f .3)
 
   -- returns another number and leaves a place exactly where the document's order comes to them first, with 20 the last
-  pub derive-refused-exactly : Bytes image → (q : Refusal) → ((1 ≤ r) × (refusal r p ≡ q)) ↔ RefusesDeriving image (length old) q
+  pub derive-refused-exactly : Bytes image → (q : Refusal) → ((1 ≤ r) × (refusal r (slot w 0) ≡ q)) ↔ RefusesDeriving image (length old) q
   derive-refused-exactly b q = Iff·trans (refusal-exactly (face-images.returned-derive image old derived) q) (book.derive-order image old b q)
+
+  -- R-2: behind the place it leaves the byte at which the record begins that the place names, 0 where it names none
+  pub derive-tells-the-byte : Bytes image → TheByte 1 image r (slot w 0) (slot w 1)
+  derive-tells-the-byte = face-images.derive-byte image old derived
 
   -- returns 0 to 16, or 20
   pub derive-returns : (r ≤ 16) ⊎ (r ≡ 20)
@@ -198,20 +211,24 @@ module _ (image old : List ℕ) {old-length r p l : ℕ} {out : List ℕ} (deriv
 
 -- DEMANDS 1 AND 2, hv_rebuild
 
-module _ (image old : List ℕ) {old-length r p l : ℕ} {out : List ℕ} (rebuilt : Rebuilt image old old-length r p l out) where
+module _ (image old : List ℕ) {old-length r l : ℕ} {w out : List ℕ} (rebuilt : Rebuilt image old old-length r w l out) where
   -- returns 0 exactly where the bytes are the image of a timetable's tables and the output has room for the timetable's own
   pub rebuild-accepted-exactly : Bytes image → (r ≡ 0) ↔ ((result : List ℕ) × BothImages result image × (length result ≤ length old))
   rebuild-accepted-exactly = face-images.rebuild-zero image old rebuilt
 
-  -- with 0 the place is 0, the length is that of the timetable's image, it fills the front of the output, and later bytes keep their values
+  -- with 0 the place and the byte offset are 0, the length is that of the timetable's image, it fills the front of the output, and later bytes keep their values
   pub rebuild-writes-exactly : r ≡ 0 → {result : List ℕ} → BothImages result image →
-      (p ≡ 0) × (l ≡ length result) × (out ≡ result ++ drop (length result) old)
+      (w ≡ 0 ∷ 0 ∷ []) × (l ≡ length result) × (out ≡ result ++ drop (length result) old)
   rebuild-writes-exactly e both =
-      let w = face-images.rebuild-fits image old rebuilt both (face-images.rebuild-room image old rebuilt e both) in (w .1, w .2, w .3)
+      let f = face-images.rebuild-fits image old rebuilt both (face-images.rebuild-room image old rebuilt e both) in (f .1, f .2, f .3)
 
   -- returns another number and leaves a place exactly where the document's order comes to them first, with 20 the last
-  pub rebuild-refused-exactly : Bytes image → (q : Refusal) → ((1 ≤ r) × (refusal r p ≡ q)) ↔ RefusesRebuilding image (length old) q
+  pub rebuild-refused-exactly : Bytes image → (q : Refusal) → ((1 ≤ r) × (refusal r (slot w 0) ≡ q)) ↔ RefusesRebuilding image (length old) q
   rebuild-refused-exactly b q = Iff·trans (refusal-exactly (face-images.returned-rebuild image old rebuilt) q) (book.rebuild-order image old b q)
+
+  -- R-2: behind the place it leaves the byte at which the record begins that the place names, 0 where it names none
+  pub rebuild-tells-the-byte : Bytes image → TheByte 2 image r (slot w 0) (slot w 1)
+  rebuild-tells-the-byte = face-images.rebuild-byte image old rebuilt
 
   -- returns 0 to 10, or 17 to 20
   pub rebuild-returns : (r ≤ 10) ⊎ ((17 ≤ r) × (r ≤ 20))
@@ -223,44 +240,48 @@ module _ (image old : List ℕ) {old-length r p l : ℕ} {out : List ℕ} (rebui
 
 -- DEMAND 2, hv_derive and hv_rebuild: what each wrote is accepted
 
-pub derived-accepted : (image old : List ℕ) {old-length p l : ℕ} {out : List ℕ} → Bytes image → Derived image old old-length 0 p l out →
-    {r′ p′ : ℕ} → TablesChecked (take l out) r′ p′ → (r′ ≡ 0) × (p′ ≡ 0)
+pub derived-accepted : (image old : List ℕ) {old-length l : ℕ} {w out : List ℕ} → Bytes image → Derived image old old-length 0 w l out →
+    {r′ : ℕ} {w′ : List ℕ} → TablesChecked (take l out) r′ w′ → (r′ ≡ 0) × (w′ ≡ 0 ∷ 0 ∷ [])
 derived-accepted = face-images.derived-accepted
 
-pub rebuilt-accepted : (image old : List ℕ) {old-length p l : ℕ} {out : List ℕ} → Bytes image → Rebuilt image old old-length 0 p l out →
-    {r′ p′ : ℕ} → TimetableChecked (take l out) r′ p′ → (r′ ≡ 0) × (p′ ≡ 0)
+pub rebuilt-accepted : (image old : List ℕ) {old-length l : ℕ} {w out : List ℕ} → Bytes image → Rebuilt image old old-length 0 w l out →
+    {r′ : ℕ} {w′ : List ℕ} → TimetableChecked (take l out) r′ w′ → (r′ ≡ 0) × (w′ ≡ 0 ∷ 0 ∷ [])
 rebuilt-accepted = face-images.rebuilt-accepted
 
 -- DEMAND 2, hv_derive and hv_rebuild: what the one wrote the other turns back into the very bytes that the one was lent
 
-pub rebuild-after-derive : (image old : List ℕ) {old-length p l : ℕ} {out : List ℕ} → Bytes image → Derived image old old-length 0 p l out →
-    (other : List ℕ) {other-length r′ p′ l′ : ℕ} {out′ : List ℕ} → Rebuilt (take l out) other other-length r′ p′ l′ out′ → length image ≤ length other →
-    (r′ ≡ 0) × (p′ ≡ 0) × (l′ ≡ length image) × (out′ ≡ image ++ drop (length image) other)
+pub rebuild-after-derive : (image old : List ℕ) {old-length l : ℕ} {w out : List ℕ} → Bytes image → Derived image old old-length 0 w l out →
+    (other : List ℕ) {other-length r′ l′ : ℕ} {w′ out′ : List ℕ} → Rebuilt (take l out) other other-length r′ w′ l′ out′ → length image ≤ length other →
+    (r′ ≡ 0) × (w′ ≡ 0 ∷ 0 ∷ []) × (l′ ≡ length image) × (out′ ≡ image ++ drop (length image) other)
 rebuild-after-derive = face-images.there-and-back
 
-pub derive-after-rebuild : (image old : List ℕ) {old-length p l : ℕ} {out : List ℕ} → Bytes image → Rebuilt image old old-length 0 p l out →
-    (other : List ℕ) {other-length r′ p′ l′ : ℕ} {out′ : List ℕ} → Derived (take l out) other other-length r′ p′ l′ out′ → length image ≤ length other →
-    (r′ ≡ 0) × (p′ ≡ 0) × (l′ ≡ length image) × (out′ ≡ image ++ drop (length image) other)
+pub derive-after-rebuild : (image old : List ℕ) {old-length l : ℕ} {w out : List ℕ} → Bytes image → Rebuilt image old old-length 0 w l out →
+    (other : List ℕ) {other-length r′ l′ : ℕ} {w′ out′ : List ℕ} → Derived (take l out) other other-length r′ w′ l′ out′ → length image ≤ length other →
+    (r′ ≡ 0) × (w′ ≡ 0 ∷ 0 ∷ []) × (l′ ≡ length image) × (out′ ≡ image ++ drop (length image) other)
 derive-after-rebuild = face-images.back-and-there
 
 -- DEMAND 1, hv_begin
 
-module _ {image old-start : List ℕ} {r p : ℕ} {start state : List ℕ} (begun : Begun image old-start r p start state) where
-  -- returns, and leaves in the place, what `hv_check_tables` does
-  pub begin-returns-as-checking : Bytes image → TablesChecked image r p
+module _ {image old-start : List ℕ} {r : ℕ} {w start state : List ℕ} (begun : Begun image old-start r w start state) where
+  -- returns, and leaves in the location, what `hv_check_tables` does
+  pub begin-returns-as-checking : Bytes image → TablesChecked image r w
   begin-returns-as-checking = face-turns.begin-checks begun
 
   -- so it returns 0 exactly where some valid timetable of a good set has those tables
   pub begin-accepted-exactly : Bytes image → (r ≡ 0) ↔ ((ts : Set) × (τ : List Entry) × TableImage image ts τ)
   begin-accepted-exactly b = tables-accepted-exactly image (begin-returns-as-checking b) b
 
-  -- with 0 the place is 0
-  pub begin-accepted-place : Bytes image → r ≡ 0 → p ≡ 0
-  begin-accepted-place b = tables-accepted-place image (begin-returns-as-checking b)
+  -- with 0 the place and the byte offset are 0
+  pub begin-accepted-location : Bytes image → r ≡ 0 → w ≡ 0 ∷ 0 ∷ []
+  begin-accepted-location b = tables-accepted-location image (begin-returns-as-checking b)
 
   -- returns another number and leaves a place exactly where the document's order comes to them first
-  pub begin-refused-exactly : Bytes image → (q : Refusal) → ((1 ≤ r) × (refusal r p ≡ q)) ↔ RefusesTableImage image q
+  pub begin-refused-exactly : Bytes image → (q : Refusal) → ((1 ≤ r) × (refusal r (slot w 0) ≡ q)) ↔ RefusesTableImage image q
   begin-refused-exactly b = tables-refused-exactly image (begin-returns-as-checking b)
+
+  -- R-2: behind the place it leaves the byte at which the record begins that the place names, 0 where it names none
+  pub begin-tells-the-byte : Bytes image → TheByte 2 image r (slot w 0) (slot w 1)
+  begin-tells-the-byte b = tables-tell-the-byte image (begin-returns-as-checking b) b
 
   -- returns 0 to 10, or 17 to 19
   pub begin-returns : Bytes image → (r ≤ 10) ⊎ ((17 ≤ r) × (r ≤ 19))
@@ -301,7 +322,7 @@ module _ (image old-state : List ℕ) (end : ℕ) {old-start start state : List 
 -- DEMAND 3: an image is accepted where `hv_begin` returned 0 (`begin-accepted-exactly`), and its timetable is the one that `hv_rebuild` writes
 -- (`rebuild-writes-exactly`): the set and the timetable that are read from what it wrote are the ones behind the image, and there are no others
 
-pub reads-exactly : (image old : List ℕ) {old-length p l : ℕ} {out : List ℕ} → Bytes image → Rebuilt image old old-length 0 p l out →
+pub reads-exactly : (image old : List ℕ) {old-length l : ℕ} {w out : List ℕ} → Bytes image → Rebuilt image old old-length 0 w l out →
     (ts : Set) (τ : List Entry) → (read-timetable (take l out) ≡ gives (record { set = ts; entries = τ })) ↔ TableImage image ts τ
 reads-exactly = face-images.reads-exactly
 
@@ -313,7 +334,7 @@ module _ (image : List ℕ) (are-bytes : Bytes image) (ts : Set) (τ : List Entr
   entries-are-jobs = book.entries-are-jobs image are-bytes ts τ accepted
 
   -- never stuck: `hv_begin` returned 0, and `hv_go_on` returns 0 for every honest end until all jobs of the last cycle have started
-  pub begins : {number place : ℕ} {old-start start state : List ℕ} → Begun image old-start number place start state → number ≡ 0
+  pub begins : {number : ℕ} {old-start location start state : List ℕ} → Begun image old-start number location start state → number ≡ 0
   begins g = begin-accepted-exactly g are-bytes .1 (ts, τ, accepted)
 
   pub never-stuck : {k number : ℕ} {start state old-start start′ state′ : List ℕ} → Log image ts k start state → suc k < all-starts τ → (end : ℕ) →

@@ -1,10 +1,13 @@
 -- What a returned number and a stored place say of an answer: 0 and 0 of one that is given, its own number and place of a refusal. Assumes nothing.
 use mathlib.Core.Path.{_≡_, refl, sym, _∙_, ap, subst}
 use mathlib.Core.Logic.{_↔_, _⊎_, inl, inr}
+use mathlib.Core.List.{List}
+use mathlib.Core.Option.{some}
 use Prim.Native.Nat.{ℕ, _≤_}
 use native.Mathlib.Omega.{arith}
 use Rattle.rules.specs.declared.Figures.{Figures}
 use Rattle.rules.specs.declared.Refusal.{Refusal}
+use Rattle.rules.specs.declared.Located.{Located}
 use Rattle.rules.specs.declared.Start.{Start as StartOf}
 use Rattle.rules.specs.declared.SetAnswer.{SetAnswer}
 use Rattle.rules.specs.declared.SetAnswer.the-variants as set-case
@@ -15,6 +18,9 @@ use Rattle.rules.specs.declared.MakeAnswer.the-variants as make-case
 use Rattle.rules.specs.declared.StartAnswer.{StartAnswer}
 use Rattle.rules.specs.declared.StartAnswer.the-variants as start-case
 use Rattle.rules.specs.Refusals.{refusal, Told, set-tells, check-tells, make-tells, start-tells}
+use Rattle.rules.specs.Located.{located, bare}
+use Rattle.rules.specs.GoingOn.{start-refusal}
+use Rattle.rules.proofs.Cases.{clash}
 
 -- an answer is given or a refusal, and what is returned of it
 pub record Returned (Given : Type 0) (Refuses : Refusal → Type 0) (number place : ℕ) : Type 0 where
@@ -61,19 +67,7 @@ module _ {A : Type 0} (tells-of : A → Told) {a : A} {number place : ℕ} (its-
   told-as : {b : A} → a ≡ b → (number ≡ tells-of b .number) × (place ≡ tells-of b .place)
   told-as e = (its-number ∙ ap (λ (x : A). tells-of x .number) e, its-place ∙ ap (λ (x : A). tells-of x .place) e)
 
--- each kind of answer is returned so, where no refusal has number 0
-pub check-returned : (a : CheckAnswer) {number place : ℕ} → number ≡ check-tells a .number → place ≡ check-tells a .place →
-    ((q : Refusal) → a ≡ check-case.Refused q → 1 ≤ q .number) → Returned (a ≡ check-case.Accepted) (λ q. a ≡ check-case.Refused q) number place
-check-returned a n p numbered = record {
-  either = cases a;
-  given = told-as check-tells n p;
-  refused = λ q e. is-refusal q (numbered q e) (told-as check-tells n p e);
-}
-  where
-    cases : (b : CheckAnswer) → (b ≡ check-case.Accepted) ⊎ ((q : Refusal) × (b ≡ check-case.Refused q))
-    cases check-case.Accepted = inl refl
-    cases (check-case.Refused q) = inr (q, refl)
-
+-- each kind of answer is returned so, where no refusal has number 0, and that of an image is located in it
 pub set-returned : (a : SetAnswer) {number place : ℕ} → number ≡ set-tells a .number → place ≡ set-tells a .place →
     ((q : Refusal) → a ≡ set-case.Refused q → 1 ≤ q .number) →
     Returned ((f : Figures) × (a ≡ set-case.Good f)) (λ q. a ≡ set-case.Refused q) number place
@@ -87,28 +81,52 @@ set-returned a n p numbered = record {
     cases (set-case.Good f) = inl (f, refl)
     cases (set-case.Refused q) = inr (q, refl)
 
-pub make-returned : (a : MakeAnswer) {number place : ℕ} → number ≡ make-tells a .number → place ≡ make-tells a .place →
-    ((q : Refusal) → a ≡ make-case.Refused q → 1 ≤ q .number) →
-    Returned ((n : ℕ) × (a ≡ make-case.Made n)) (λ q. a ≡ make-case.Refused q) number place
-make-returned a n p numbered = record {
-  either = cases a;
-  given = λ g. told-as make-tells n p (g .1);
-  refused = λ q e. is-refusal q (numbered q e) (told-as make-tells n p e);
+-- a refusal that has a number, and is located in an image
+abbrev pub NumberedIn : List ℕ → Located → Type 0
+NumberedIn bytes q = (1 ≤ q .number) × (q ≡ located bytes (bare q))
+
+pub check-returned : (bytes : List ℕ) (a : CheckAnswer) {number place : ℕ} → number ≡ check-tells a .number → place ≡ check-tells a .place →
+    ((q : Located) → a ≡ check-case.Refused q → NumberedIn bytes q) →
+    Returned (a ≡ check-case.Accepted) (λ q. a ≡ check-case.Refused (located bytes q)) number place
+check-returned bytes a n p numbered = record {
+  either = cases a refl;
+  given = told-as check-tells n p;
+  refused = λ q e. is-refusal q (numbered (located bytes q) e .0) (told-as check-tells n p e);
 }
   where
-    cases : (b : MakeAnswer) → ((n : ℕ) × (b ≡ make-case.Made n)) ⊎ ((q : Refusal) × (b ≡ make-case.Refused q))
-    cases (make-case.Made n) = inl (n, refl)
-    cases (make-case.Refused q) = inr (q, refl)
+    cases : (b : CheckAnswer) → a ≡ b → (a ≡ check-case.Accepted) ⊎ ((q : Refusal) × (a ≡ check-case.Refused (located bytes q)))
+    cases check-case.Accepted e = inl e
+    cases (check-case.Refused q) e = inr (bare q, e ∙ ap check-case.Refused (numbered q e .1))
 
+pub make-returned : (bytes : List ℕ) (a : MakeAnswer) {number place : ℕ} → number ≡ make-tells a .number → place ≡ make-tells a .place →
+    ((q : Located) → a ≡ make-case.Refused q → NumberedIn bytes q) →
+    Returned ((n : ℕ) × (a ≡ make-case.Made n)) (λ q. a ≡ make-case.Refused (located bytes q)) number place
+make-returned bytes a n p numbered = record {
+  either = cases a refl;
+  given = λ g. told-as make-tells n p (g .1);
+  refused = λ q e. is-refusal q (numbered (located bytes q) e .0) (told-as make-tells n p e);
+}
+  where
+    cases : (b : MakeAnswer) → a ≡ b → ((n : ℕ) × (a ≡ make-case.Made n)) ⊎ ((q : Refusal) × (a ≡ make-case.Refused (located bytes q)))
+    cases (make-case.Made n) e = inl (n, e)
+    cases (make-case.Refused q) e = inr (bare q, e ∙ ap make-case.Refused (numbered q e .1))
+
+-- the dispatcher's, by the refusal in it
 pub start-returned : (a : StartAnswer) {number place : ℕ} → number ≡ start-tells a .number → place ≡ start-tells a .place →
-    ((q : Refusal) → a ≡ start-case.Refused q → 1 ≤ q .number) →
-    Returned ((s : StartOf) × (a ≡ start-case.Start s)) (λ q. a ≡ start-case.Refused q) number place
-start-returned a n p numbered = record {
+    ((q : Refusal) → start-refusal a ≡ some q → 1 ≤ q .number) →
+    Returned ((s : StartOf) × (a ≡ start-case.Start s)) (λ q. start-refusal a ≡ some q) number place
+start-returned a {number} {place} n p numbered = record {
   either = cases a;
   given = λ g. told-as start-tells n p (g .1);
-  refused = λ q e. is-refusal q (numbered q e) (told-as start-tells n p e);
+  refused = λ q e. is-refusal q (numbered q e) (by-answer a n p q e);
 }
   where
-    cases : (b : StartAnswer) → ((s : StartOf) × (b ≡ start-case.Start s)) ⊎ ((q : Refusal) × (b ≡ start-case.Refused q))
+    cases : (b : StartAnswer) → ((s : StartOf) × (b ≡ start-case.Start s)) ⊎ ((q : Refusal) × (start-refusal b ≡ some q))
     cases (start-case.Start s) = inl (s, refl)
-    cases (start-case.Refused q) = inr (q, refl)
+    cases (start-case.Refused q) = inr (bare q, refl)
+
+    by-answer : (b : StartAnswer) → number ≡ start-tells b .number → place ≡ start-tells b .place → (q : Refusal) → start-refusal b ≡ some q →
+        (number ≡ q .number) × (place ≡ q .place)
+    by-answer (start-case.Start s) n p q e = clash (cc)
+    by-answer (start-case.Refused w) n p q e =
+        let same : bare w ≡ q = cc in (n ∙ ap (λ (x : Refusal). x .number) same, p ∙ ap (λ (x : Refusal). x .place) same)

@@ -12,7 +12,7 @@ use Rattle.rules.specs.declared.StartAnswer.{StartAnswer}
 use Rattle.rules.specs.declared.StartAnswer.the-variants.{Start}
 use Rattle.rules.specs.declared.Dispatcher.{Dispatcher as State}
 use Rattle.rules.specs.declared.Turn.{Turn}
-use Rattle.rules.specs.Refusals.{refusal, start-tells}
+use Rattle.rules.specs.Refusals.{refusal, of-no-image, start-tells}
 use Rattle.rules.specs.Tasks.{Set, hyperperiod}
 use Rattle.rules.specs.Priority.{slot}
 use Rattle.rules.specs.Dispatcher.{Shaped, numbers, refused, begin, go-on}
@@ -64,7 +64,7 @@ module _ (image : List ℕ) (ts : Set) where
 
     -- a call that is refused and hands back the same state leaves all as it was
     kept-by : {number : ℕ} {old-start start′ state′ : List ℕ} (end : ℕ) → GoneOn image state end old-start number start′ state′ → (n : ℕ) →
-        go-on image (b .d) end ≡ refused (refusal n 0) (b .d) → (number ≡ n) × (start′ ≡ old-start) × (state′ ≡ state)
+        go-on image (b .d) end ≡ refused (of-no-image (refusal n 0)) (b .d) → (number ≡ n) × (start′ ≡ old-start) × (state′ ≡ state)
     kept-by {old-start = old-start} end g n e =
         let t = gone-on-from end g in (
           t .told .its-number ∙ ap (λ (turn : Turn). start-tells (turn .answer) .number) e,
@@ -91,7 +91,7 @@ module _ (image : List ℕ) (are-bytes : Bytes image) (ts : Set) (τ : List Entr
       )
 
   -- `hv_begin` does
-  pub begins : {number place : ℕ} {old-start start state : List ℕ} → 0 < all-starts τ → Begun image old-start number place start state →
+  pub begins : {number : ℕ} {old-start location start state : List ℕ} → 0 < all-starts τ → Begun image old-start number location start state →
       (number ≡ 0) × Beside image ts 0 start state
   begins lt g = told-next (book-calls.begun refl) lt (g .turn-told)
 
@@ -128,7 +128,7 @@ module _ (image : List ℕ) (are-bytes : Bytes image) (ts : Set) (τ : List Entr
   first-log lt =
       let turn : Turn = begin image in
       let shaped : Shaped (turn .state) = book.states-shaped image are-bytes ts τ accepted (book-calls.begun refl) lt in
-      (start-or (turn .answer) [], numbers (turn .state), begun (record { turn-told = told-of turn [] shaped; its-place = refl }))
+      (start-or (turn .answer) [], numbers (turn .state), begun (record { turn-told = told-of turn [] shaped; its-location = refl }))
 
   -- and for the next, where the job ends when it starts
   one-more : (k : ℕ) → ALog k → suc k < all-starts τ → ALog (suc k)
@@ -151,7 +151,7 @@ module _ (image : List ℕ) (are-bytes : Bytes image) (ts : Set) (τ : List Entr
   an-early-call {start = start} {state = state} log lt old-start =
       let b = logged log lt in
       let l : 0 < b .s .time = book.early-ends-exist image are-bytes ts τ accepted (b .log) lt in
-      let t : TurnTold (refused (refusal 21 0) (b .d)) old-start 21 old-start state =
+      let t : TurnTold (refused (of-no-image (refusal 21 0)) (b .d)) old-start 21 old-start state =
       record { told = record { its-number = refl; its-start = refl }; its-numbers = b .its-numbers; its-state = b .its-state } in
       let u : TurnTold (go-on image (b .d) 0) old-start 21 old-start state = rw (book.too-early-refused image are-bytes ts τ accepted (b .log) lt 0 l) t in
       (rw (b .its-start) l, gone-on-there image ts b 0 u)

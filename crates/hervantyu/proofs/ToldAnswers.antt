@@ -3,7 +3,7 @@ use mathlib.Core.Path.{_≡_, refl, sym, ap, subst}
 use mathlib.Core.List.{List}
 use Prim.Native.Nat.{ℕ, zero, suc, _≤_}
 use native.Mathlib.Omega.{arith}
-use Rattle.rules.specs.declared.Refusal.{Refusal}
+use Rattle.rules.specs.declared.Located.{Located}
 use Rattle.rules.specs.declared.StartAnswer.{StartAnswer}
 use Rattle.rules.specs.declared.CheckAnswer.{CheckAnswer}
 use Rattle.rules.specs.declared.MakeAnswer.{MakeAnswer}
@@ -31,7 +31,7 @@ kept-by zero t i old h = clash (omega arith)
 kept-by (suc number) t i old h = refl
 
 -- a refusal: its number, its place, and a lent number holds what it held
-module _ (t : Told) (r : Refusal) (e : t ≡ tells-refusal r) where
+module _ (t : Told) (r : Located) (e : t ≡ tells-refusal r) where
   pub its-number : r .number ≡ t .number
   its-number = sym (ap (λ (a : Told). a .number) e)
 
@@ -42,11 +42,12 @@ module _ (t : Told) (r : Refusal) (e : t ≡ tells-refusal r) where
   value-kept h i old = kept-by (t .number) t i old (omega (arith, its-number))
 
 -- what is told of an answer is told of one that is equal to it
-pub check-told : {a b : CheckAnswer} {number place : ℕ} → a ≡ b → CheckTold a number place → CheckTold b number place
-check-told {number = number} {place = place} e t = subst (λ (a : CheckAnswer). CheckTold a number place) e t
+pub check-told : {a b : CheckAnswer} {number : ℕ} {location : List ℕ} → a ≡ b → CheckTold a number location → CheckTold b number location
+check-told {number = number} {location = location} e t = subst (λ (a : CheckAnswer). CheckTold a number location) e t
 
-pub make-told : {a b : MakeAnswer} {old number place length : ℕ} → a ≡ b → MakeTold a old number place length → MakeTold b old number place length
-make-told {old = old} {number = number} {place = place} {length = length} e t = subst (λ (a : MakeAnswer). MakeTold a old number place length) e t
+pub make-told : {a b : MakeAnswer} {old number length : ℕ} {location : List ℕ} → a ≡ b → MakeTold a old number location length →
+    MakeTold b old number location length
+make-told {old = old} {number = number} {length = length} {location = location} e t = subst (λ (a : MakeAnswer). MakeTold a old number location length) e t
 
 start-told : {a b : StartAnswer} {old start : List ℕ} {number : ℕ} → a ≡ b → StartTold a old number start → StartTold b old number start
 start-told {old = old} {start = start} {number = number} e t = subst (λ (a : StartAnswer). StartTold a old number start) e t

@@ -30,15 +30,19 @@ pub record SetJudged (n : ℕ) (numbers : List ℕ) (old-hyperperiod old-jobs nu
   pub its-hyperperiod : hyperperiod ≡ value-or (set-tells (judge-set (set-from n numbers 0))) 0 old-hyperperiod
   pub its-jobs : jobs ≡ value-or (set-tells (judge-set (set-from n numbers 0))) 1 old-jobs
 
--- what plain checking returns and leaves in the place
-pub record CheckTold (answer : CheckAnswer) (number place : ℕ) : Type 0 where
-  pub its-number : number ≡ check-tells answer .number
-  pub its-place : place ≡ check-tells answer .place
+-- where a refusal of an image is: its place, and its byte offset
+abbrev pub location-of : Told → List ℕ
+location-of t = t .place ∷ t .offset ∷ []
 
-abbrev pub TimetableChecked : List ℕ → ℕ → ℕ → Type 0
+-- what plain checking returns and leaves in the location
+pub record CheckTold (answer : CheckAnswer) (number : ℕ) (location : List ℕ) : Type 0 where
+  pub its-number : number ≡ check-tells answer .number
+  pub its-location : location ≡ location-of (check-tells answer)
+
+abbrev pub TimetableChecked : List ℕ → ℕ → List ℕ → Type 0
 TimetableChecked image = CheckTold (check-timetable image)
 
-abbrev pub TablesChecked : List ℕ → ℕ → ℕ → Type 0
+abbrev pub TablesChecked : List ℕ → ℕ → List ℕ → Type 0
 TablesChecked image = CheckTold (check-tables image)
 
 -- the length afterwards: the result's, or what it held where the answer is a refusal
@@ -47,20 +51,20 @@ length-or (Made length) old = length
 length-or (Refused r) old = old
 
 -- what deriving or rebuilding returns and leaves in the lent numbers
-pub record MakeTold (answer : MakeAnswer) (old-length number place length : ℕ) : Type 0 where
+pub record MakeTold (answer : MakeAnswer) (old-length number : ℕ) (location : List ℕ) (length : ℕ) : Type 0 where
   pub its-number : number ≡ make-tells answer .number
-  pub its-place : place ≡ make-tells answer .place
+  pub its-location : location ≡ location-of (make-tells answer)
   pub its-length : length ≡ length-or answer old-length
 
 -- and in every byte of the output
-pub record Written (answer : MakeAnswer) (after : List ℕ) (old-length number place length : ℕ) (output : List ℕ) : Type 0 where
-  pub told : MakeTold answer old-length number place length
+pub record Written (answer : MakeAnswer) (after : List ℕ) (old-length number : ℕ) (location : List ℕ) (length : ℕ) (output : List ℕ) : Type 0 where
+  pub told : MakeTold answer old-length number location length
   pub its-output : output ≡ after
 
-abbrev pub Derived : List ℕ → List ℕ → ℕ → ℕ → ℕ → ℕ → List ℕ → Type 0
+abbrev pub Derived : List ℕ → List ℕ → ℕ → ℕ → List ℕ → ℕ → List ℕ → Type 0
 Derived image old-output = Written (derive image old-output) (derive-output image old-output)
 
-abbrev pub Rebuilt : List ℕ → List ℕ → ℕ → ℕ → ℕ → ℕ → List ℕ → Type 0
+abbrev pub Rebuilt : List ℕ → List ℕ → ℕ → ℕ → List ℕ → ℕ → List ℕ → Type 0
 Rebuilt image old-output = Written (rebuild image old-output) (rebuild-output image old-output)
 
 -- the start afterwards: task, job, cycle and absolute time, or what it held where the answer is a refusal
@@ -80,9 +84,9 @@ pub record TurnTold (turn : Turn) (old-start : List ℕ) (number : ℕ) (start s
   pub its-state : state-from state ≡ turn .state
 
 -- what `hv_begin` returns and leaves, whatever the state was
-pub record Begun (image old-start : List ℕ) (number place : ℕ) (start state : List ℕ) : Type 0 where
+pub record Begun (image old-start : List ℕ) (number : ℕ) (location start state : List ℕ) : Type 0 where
   pub turn-told : TurnTold (begin image) old-start number start state
-  pub its-place : place ≡ start-tells (begin image .answer) .place
+  pub its-location : location ≡ location-of (start-tells (begin image .answer))
 
 -- what `hv_go_on` returns and leaves
 abbrev pub GoneOn : List ℕ → List ℕ → ℕ → List ℕ → ℕ → List ℕ → List ℕ → Type 0

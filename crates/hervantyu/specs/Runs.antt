@@ -13,7 +13,7 @@ Honest ts start end = (slot start 3 ≤ end) × (end ≤ slot start 3 + task ts 
 -- the calls so far, whatever they returned: how many reported an honest end, what the last of these (or `hv_begin`) left in the start, and what the last
 -- call left in the state; a call that reports an end before the running job's start is made again
 pub data Log (image : List ℕ) (ts : Set) : ℕ → List ℕ → List ℕ → Type 0 where
-  begun : {old-start start state : List ℕ} {number place : ℕ} → Begun image old-start number place start state → Log image ts 0 start state
+  begun : {old-start location start state : List ℕ} {number : ℕ} → Begun image old-start number location start state → Log image ts 0 start state
   went-on : {start state old-start start′ state′ : List ℕ} {k number : ℕ} → Log image ts k start state → (end : ℕ) → Honest ts start end →
       GoneOn image state end old-start number start′ state′ → Log image ts (suc k) start′ state′
   too-early : {start state old-start start′ state′ : List ℕ} {k number : ℕ} → Log image ts k start state → (end : ℕ) → end < slot start 3 →

@@ -1,13 +1,15 @@
 // The C face: the names of include/hervantyu.h, over the proved crates. Each function returns the refusal's number, 0 where there is none, and stores its
-// place where one is lent; on a refusal nothing else that was lent changes, but for the dispatcher's state.
+// place, and for an image the record's byte offset behind it, where they are lent; on a refusal nothing else that was lent changes, but for the dispatcher's
+// state.
 use numbers::NUMBERS;
 use rules::CheckAnswer;
+use rules::Located;
 use rules::MakeAnswer;
 use rules::SetAnswer;
 use rules::StartAnswer;
 ghost use mathlib.Core.Path.{_≡_};
-ghost use Rattle.rules.specs.Refusals.{start-tells};
-ghost use Rattle.hervantyu.specs.Lent.{SetJudged, CheckTold, TimetableChecked, TablesChecked, MakeTold, Derived, Rebuilt};
+ghost use Rattle.rules.specs.Refusals.{tells-refusal, start-tells};
+ghost use Rattle.hervantyu.specs.Lent.{location-of, SetJudged, CheckTold, TimetableChecked, TablesChecked, MakeTold, Derived, Rebuilt};
 ghost use Rattle.hervantyu.specs.Lent.{StartTold, Begun, GoneOn};
 
 #[no_mangle]
@@ -34,65 +36,82 @@ pub extern "C" fn hv_judge_set(
     }
 }
 
-// What plain checking answered, told through the place.
-fn told_check(answer: CheckAnswer, place: &mut u64) -> u32
-    ensures { λ r. ⌜ CheckTold answer r (now (place .exit)) ⌝ }
+// The place and the byte offset of a refusal.
+fn located(r: Located) -> [u64; 2]
+    ensures { λ l. ⌜ l ≡ location-of (tells-refusal r) ⌝ }
+{
+    [r.place as u64, r.offset as u64]
+}
+
+// What plain checking answered, told through the location.
+fn told_check(answer: CheckAnswer, location: &mut [u64; 2]) -> u32
+    ensures { λ r. ⌜ CheckTold answer r (now (location .exit)) ⌝ }
 {
     match answer {
         CheckAnswer::Accepted => {
-            *place = 0;
+            *location = [0u64; 2];
             0
         }
         CheckAnswer::Refused(r) => {
-            *place = r.place as u64;
+            *location = located(r);
             r.number
         }
     }
 }
 
 #[no_mangle]
-pub extern "C" fn hv_check_timetable(image: &[u8], place: &mut u64) -> u32
-    ensures { λ r. ⌜ TimetableChecked (now (image .entry)) r (now (place .exit)) ⌝ }
+pub extern "C" fn hv_check_timetable(image: &[u8], location: &mut [u64; 2]) -> u32
+    ensures { λ r. ⌜ TimetableChecked (now (image .entry)) r (now (location .exit)) ⌝ }
 {
-    told_check(timetables::check(image), place)
+    told_check(timetables::check(image), location)
 }
 
 #[no_mangle]
-pub extern "C" fn hv_check_tables(image: &[u8], place: &mut u64) -> u32
-    ensures { λ r. ⌜ TablesChecked (now (image .entry)) r (now (place .exit)) ⌝ }
+pub extern "C" fn hv_check_tables(image: &[u8], location: &mut [u64; 2]) -> u32
+    ensures { λ r. ⌜ TablesChecked (now (image .entry)) r (now (location .exit)) ⌝ }
 {
-    told_check(tables::check(image), place)
+    told_check(tables::check(image), location)
 }
 
-// What deriving or rebuilding answered, told through the place and the length.
-fn told_make(answer: MakeAnswer, place: &mut u64, length: &mut u64) -> u32
-    ensures { λ r. ⌜ MakeTold answer (now (length .entry)) r (now (place .exit)) (now (length .exit)) ⌝ }
+// What deriving or rebuilding answered, told through the location and the length.
+fn told_make(answer: MakeAnswer, location: &mut [u64; 2], length: &mut u64) -> u32
+    ensures { λ r. ⌜ MakeTold answer (now (length .entry)) r (now (location .exit)) (now (length .exit)) ⌝ }
 {
     match answer {
         MakeAnswer::Made(n) => {
-            *place = 0;
+            *location = [0u64; 2];
             *length = n as u64;
             0
         }
         MakeAnswer::Refused(r) => {
-            *place = r.place as u64;
+            *location = located(r);
             r.number
         }
     }
 }
 
 #[no_mangle]
-pub extern "C" fn hv_derive(image: &[u8], out: &mut [u8], place: &mut u64, length: &mut u64) -> u32
-    ensures { λ r. ⌜ Derived (now (image .entry)) (now (out .entry)) (now (length .entry)) r (now (place .exit)) (now (length .exit)) (now (out .exit)) ⌝ }
+pub extern "C" fn hv_derive(
+    image: &[u8],
+    out: &mut [u8],
+    location: &mut [u64; 2],
+    length: &mut u64,
+) -> u32
+    ensures { λ r. ⌜ Derived (now (image .entry)) (now (out .entry)) (now (length .entry)) r (now (location .exit)) (now (length .exit)) (now (out .exit)) ⌝ }
 {
-    told_make(deriving::derive(image, out), place, length)
+    told_make(deriving::derive(image, out), location, length)
 }
 
 #[no_mangle]
-pub extern "C" fn hv_rebuild(image: &[u8], out: &mut [u8], place: &mut u64, length: &mut u64) -> u32
-    ensures { λ r. ⌜ Rebuilt (now (image .entry)) (now (out .entry)) (now (length .entry)) r (now (place .exit)) (now (length .exit)) (now (out .exit)) ⌝ }
+pub extern "C" fn hv_rebuild(
+    image: &[u8],
+    out: &mut [u8],
+    location: &mut [u64; 2],
+    length: &mut u64,
+) -> u32
+    ensures { λ r. ⌜ Rebuilt (now (image .entry)) (now (out .entry)) (now (length .entry)) r (now (location .exit)) (now (length .exit)) (now (out .exit)) ⌝ }
 {
-    told_make(rebuilding::rebuild(image, out), place, length)
+    told_make(rebuilding::rebuild(image, out), location, length)
 }
 
 // What beginning or going on answered, told through the start.
@@ -108,13 +127,13 @@ fn told_start(answer: StartAnswer, start: &mut [u64; 4]) -> u32
     }
 }
 
-// The place of what beginning answered.
-fn place_in(answer: StartAnswer) -> u64
-    ensures { λ r. ⌜ r ≡ start-tells answer .place ⌝ }
+// The place and the byte offset of what beginning answered.
+fn location_in(answer: StartAnswer) -> [u64; 2]
+    ensures { λ r. ⌜ r ≡ location-of (start-tells answer) ⌝ }
 {
     match answer {
-        StartAnswer::Start(_) => 0,
-        StartAnswer::Refused(r) => r.place as u64,
+        StartAnswer::Start(_) => [0u64; 2],
+        StartAnswer::Refused(r) => located(r),
     }
 }
 
@@ -123,12 +142,12 @@ pub extern "C" fn hv_begin(
     d: &mut [u32; NUMBERS],
     image: &[u8],
     start: &mut [u64; 4],
-    place: &mut u64,
+    location: &mut [u64; 2],
 ) -> u32
-    ensures { λ r. ⌜ Begun (now (image .entry)) (now (start .entry)) r (now (place .exit)) (now (start .exit)) (now (d .exit)) ⌝ }
+    ensures { λ r. ⌜ Begun (now (image .entry)) (now (start .entry)) r (now (location .exit)) (now (start .exit)) (now (d .exit)) ⌝ }
 {
     let answer = dispatcher::begin_numbers(image, d);
-    *place = place_in(answer);
+    *location = location_in(answer);
     told_start(answer, start)
 }
 

@@ -7,16 +7,18 @@ use native.Mathlib.Omega.{arith}
 use lib.ListN.{length, take}
 use lib.Seq.{length-take-le, take-all}
 use borrow.Author.Tests.{le-leb, lt-leb}
+use Rattle.fields.specs.Number.{Bytes}
 use Rattle.rules.specs.declared.Entry.{Entry}
-use Rattle.rules.specs.declared.Refusal.{Refusal}
+use Rattle.rules.specs.declared.Located.{Located}
 use Rattle.rules.specs.declared.CheckAnswer.the-variants.{Refused}
 use Rattle.rules.specs.Tasks.{Set, hyperperiod}
-use Rattle.rules.specs.Refusals.{Judged, gives, refuses}
 use Rattle.rules.specs.Framing.{frame-records}
-use Rattle.rules.specs.Operations.{Timed, rebuilt, check-answer, check-tables}
-use Rattle.rules.specs.Promised.{TableImage}
+use Rattle.rules.specs.Operations.{check-tables}
+use Rattle.rules.specs.Promised.{TableImage, TheByte}
 use Rattle.rules.specs.Worked.{P2-bytes}
-use Rattle.rules.proofs.Cases.{clash, by-le}
+use Rattle.rules.proofs.Cases.{by-le}
+use Rattle.rules.proofs.ImageOrder.{tables-refused-at}
+use Rattle.rules.proofs.Promises.{tables-byte}
 use Rattle.rules.proofs.Demand2.{rebuilds}
 use Rattle.lines.specs.Text.{decimal, line, ok-line, listing-of, refused-text, text-of, listing, longest-input, too-long, program-text}
 use Rattle.lines.specs.Lists.{AtFront, room, Listed}
@@ -34,17 +36,16 @@ one-listing {old = old} a b =
 -- the image of a timetable's tables is listed as exactly that timetable
 pub accepted-listing : {bytes : List ℕ} {ts : Set} {τ : List Entry} → TableImage bytes ts τ → listing bytes ≡ listing-of ts τ
 unfolding listing
-accepted-listing t = ap text-of (rebuilds t)
-
--- what checking refused
-checked-refused : (z : Judged Timed) (r : Refusal) → check-answer z ≡ Refused r → z ≡ refuses r
-checked-refused (gives i) r e = clash (cc)
-checked-refused (refuses q) r e = let same : q ≡ r = cc in ap refuses same
+accepted-listing {bytes} t = ap (text-of bytes) (rebuilds t)
 
 -- any other image is listed as the refusal that checking it gives
-pub refused-listing : (bytes : List ℕ) (r : Refusal) → check-tables bytes ≡ Refused r → listing bytes ≡ refused-text r
-unfolding check-tables listing
-refused-listing bytes r e = ap text-of (checked-refused (rebuilt bytes) r e)
+pub refused-listing : (bytes : List ℕ) (r : Located) → check-tables bytes ≡ Refused r → listing bytes ≡ refused-text r
+unfolding listing
+refused-listing bytes r e = let w = tables-refused-at bytes r e in ap (text-of bytes) (w .judged) ∙ ap refused-text (sym (w .there))
+
+-- so the third number of its line is the byte at which the record begins that the second one names, 0 where it names none
+pub listed-byte : (bytes : List ℕ) → Bytes bytes → (r : Located) → check-tables bytes ≡ Refused r → TheByte 2 bytes (r .number) (r .place) (r .offset)
+listed-byte bytes b r e = tables-byte bytes b (Refused r) e
 
 -- an input of at most 65,536 bytes is listed
 pub judged-input : (input : List ℕ) → length input ≤ longest-input → program-text input ≡ listing input
@@ -65,9 +66,9 @@ first-bytes-decide input =
     ∙ sym (refused-input input (omega arith)))
     (λ l. ap program-text (take-all (suc longest-input) input (omega arith)))
 
--- the document's "refused 20 0"
+-- the document's "refused 20 0", with document 02's third number
 pub too-long-line : refused-text too-long
-    ≡ (0x72 ∷ 0x65 ∷ 0x66 ∷ 0x75 ∷ 0x73 ∷ 0x65 ∷ 0x64 ∷ 0x20 ∷ 0x32 ∷ 0x30 ∷ 0x20 ∷ 0x30 ∷ 0x0A ∷ [])
+    ≡ (0x72 ∷ 0x65 ∷ 0x66 ∷ 0x75 ∷ 0x73 ∷ 0x65 ∷ 0x64 ∷ 0x20 ∷ 0x32 ∷ 0x30 ∷ 0x20 ∷ 0x30 ∷ 0x20 ∷ 0x30 ∷ 0x0A ∷ [])
 unfolding refused-text decimal
 too-long-line = refl
 

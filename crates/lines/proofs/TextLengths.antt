@@ -1,4 +1,4 @@
--- How long texts are: a line of a valid timetable has at most 20 bytes, its whole listing at most 81,928, and a refusal at most 40. Assumes nothing.
+-- How long texts are: a line of a valid timetable has at most 20 bytes, its whole listing at most 81,928, and a refusal at most 61. Assumes nothing.
 use mathlib.Core.Path.{_≡_}
 use mathlib.Core.List.{List, [], _∷_, _++_}
 use Prim.Native.Nat.{ℕ, zero, suc, _+_, _*_, _^_, _≤_, _<_}
@@ -7,7 +7,7 @@ use lib.Dec.{eqb}
 use lib.ListN.{length, take, length-append}
 use lib.Seq.{length-take-le}
 use Rattle.rules.specs.declared.Entry.{Entry}
-use Rattle.rules.specs.declared.Refusal.{Refusal}
+use Rattle.rules.specs.declared.Located.{Located}
 use Rattle.rules.specs.Tasks.{Set, limits, task, jobs, GoodSet}
 use Rattle.rules.specs.Timetable.{entry-at, count, job-at, end-at, ValidTimetable}
 use Rattle.rules.proofs.Cases.{by-bool, by-le}
@@ -42,15 +42,17 @@ ok-short : (starts : ℕ) → starts < 10000 → length (ok-line starts) ≤ 8
 unfolding ok-line
 ok-short starts h = omega (arith, number-short 3 starts line-end h)
 
--- a refusal's line, whatever its number and its place are in memory
-pub refused-short : (r : Refusal) → r .number < 10 ^ 10 → r .place < 10 ^ 20 → length (refused-text r) ≤ 40
+-- a refusal's line, whatever its numbers are in memory
+pub refused-short : (r : Located) → r .number < 10 ^ 10 → r .place < 10 ^ 20 → r .offset < 10 ^ 20 → length (refused-text r) ≤ 61
 unfolding refused-text
-refused-short r a b =
+refused-short r a b c =
     omega (
       arith,
-      length-append (number-then (r .number) space) (number-then (r .place) line-end),
+      length-append (number-then (r .number) space) (number-then (r .place) space ++ number-then (r .offset) line-end),
+      length-append (number-then (r .place) space) (number-then (r .offset) line-end),
       number-short 9 (r .number) space a,
-      number-short 19 (r .place) line-end b,
+      number-short 19 (r .place) space b,
+      number-short 19 (r .offset) line-end c,
     )
 
 -- a task appears no more often than there are entries

@@ -4,10 +4,11 @@ use Prim.Native.Nat.{ℕ, zero, suc, _+_, _/_, _%_}
 use lib.Dec.{ltb, leb}
 use lib.ListN.{length}
 use Rattle.rules.specs.declared.Entry.{Entry}
-use Rattle.rules.specs.declared.Refusal.{Refusal}
+use Rattle.rules.specs.declared.Located.{Located}
 use Rattle.rules.specs.Tasks.{Set}
-use Rattle.rules.specs.Refusals.{Judged, gives, refuses, refusal}
+use Rattle.rules.specs.Refusals.{Judged, gives, refuses, refusal, of-no-image}
 use Rattle.rules.specs.Timetable.{pick, entry-at, job-at, end-at}
+use Rattle.rules.specs.Located.{located}
 use Rattle.rules.specs.Operations.{Timed, rebuilt}
 
 -- the character between numbers, in ASCII, and the one at the end of a line
@@ -62,26 +63,26 @@ ok-line starts = ok-word ++ number-then starts line-end
 unfoldable pub listing-of : Set → List Entry → List ℕ
 listing-of ts τ = entry-lines ts τ (length τ) ++ ok-line (length τ)
 
--- a refusal is one line: "refused ", its number and its place
-unfoldable pub refused-text : Refusal → List ℕ
-refused-text r = refused-word ++ (number-then (r .number) space ++ number-then (r .place) line-end)
+-- a refusal is one line: "refused ", its number, its place and its byte offset
+unfoldable pub refused-text : Located → List ℕ
+refused-text r = refused-word ++ (number-then (r .number) space ++ (number-then (r .place) space ++ number-then (r .offset) line-end))
 
--- what judging came to, as text
-abbrev pub text-of : Judged Timed → List ℕ
-text-of (gives i) = listing-of (i .set) (i .entries)
-text-of (refuses r) = refused-text r
+-- what judging an image came to, as text
+abbrev pub text-of : List ℕ → Judged Timed → List ℕ
+text-of bytes (gives i) = listing-of (i .set) (i .entries)
+text-of bytes (refuses r) = refused-text (located bytes r)
 
 -- the listing of any bytes as a table image: the timetable that is rebuilt, or the refusal
 unfoldable pub listing : List ℕ → List ℕ
-listing bytes = text-of (rebuilt bytes)
+listing bytes = text-of bytes (rebuilt bytes)
 
 -- the most bytes of an input that are judged
 abbrev pub longest-input : ℕ
 longest-input = 65536
 
 -- a longer input is refused with 20
-abbrev pub too-long : Refusal
-too-long = refusal 20 0
+abbrev pub too-long : Located
+too-long = of-no-image (refusal 20 0)
 
 -- what the program writes for its whole input: the listing, or the refusal of an input that is too long
 unfoldable pub program-text : List ℕ → List ℕ

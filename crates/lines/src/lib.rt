@@ -5,8 +5,9 @@ use images::HEAD_SIZE;
 use images::ROWS;
 use images::TASK_SIZE;
 use images::TS;
+use rules::Located;
 use rules::MakeAnswer;
-use rules::Refusal;
+use rules::TOO_LONG;
 ghost use mathlib.Core.Path.{_≡_};
 ghost use Prim.Native.Nat.{_+_, _≤_};
 ghost use lib.ListN.{length};
@@ -60,14 +61,15 @@ fn put_ok(out: &mut [u8], at: usize, starts: u64) -> usize
     put_number(out, number, starts, b'\n')
 }
 
-// The line of a refusal at the front of an output: its number and its place.
-fn put_refused(out: &mut [u8], r: Refusal) -> usize
+// The line of a refusal at the front of an output: its number, its place and its byte offset.
+fn put_refused(out: &mut [u8], r: Located) -> usize
     requires { ⌜ length (refused-text r) ≤ length (now out) ⌝ }
     ensures { λ n. ⌜ AtFront (refused-text r) (now (out .entry)) n (now (out .exit)) ⌝ }
 {
     let number = put_bytes(out, 0, b"refused ");
     let place = put_number(out, number, r.number as u64, b' ');
-    put_number(out, place, r.place as u64, b'\n')
+    let offset = put_number(out, place, r.place as u64, b' ');
+    put_number(out, offset, r.offset as u64, b'\n')
 }
 
 // The line for an input that is too long, at the front of an output.
@@ -75,13 +77,7 @@ fn put_too_long(out: &mut [u8]) -> usize
     requires { ⌜ length (refused-text too-long) ≤ length (now out) ⌝ }
     ensures { λ n. ⌜ AtFront (refused-text too-long) (now (out .entry)) n (now (out .exit)) ⌝ }
 {
-    put_refused(
-        out,
-        Refusal {
-            number: 20,
-            place: 0,
-        },
-    )
+    put_refused(out, TOO_LONG)
 }
 
 // The number of tasks that an image's TS tells.

@@ -25,12 +25,12 @@ use Rattle.rules.proofs.Promises as book
 -- the image of a timetable's tables is accepted
 accepts-tables : {bytes : List ℕ} {ts : Set} {τ : List Entry} → TableImage bytes ts τ → check-tables bytes ≡ Accepted
 unfolding check-tables
-accepts-tables t = ap check-answer (rebuilds t)
+accepts-tables {bytes} t = ap (check-answer bytes) (rebuilds t)
 
 -- and that of a timetable
 accepts-timetable : {bytes : List ℕ} {ts : Set} {τ : List Entry} → TimetableImage bytes ts τ → check-timetable bytes ≡ Accepted
 unfolding check-timetable
-accepts-timetable t = ap check-answer (derives t)
+accepts-timetable {bytes} t = ap (check-answer bytes) (derives t)
 
 -- a table image is that of the tables that its timetable has
 is-of-tables : {bytes : List ℕ} {ts : Set} {τ : List Entry} → TableImage bytes ts τ → bytes ≡ table-image ts (tables ts τ)

@@ -9,11 +9,13 @@ use borrow.Author.Tests.{le-leb}
 use Rattle.fields.specs.Number.{Bytes}
 use Rattle.rules.specs.declared.Entry.{Entry}
 use Rattle.rules.specs.declared.Refusal.{Refusal}
+use Rattle.rules.specs.declared.Located.{Located}
 use Rattle.rules.specs.declared.MakeAnswer.{MakeAnswer}
 use Rattle.rules.specs.declared.MakeAnswer.the-variants.{Made, Refused}
 use Rattle.rules.specs.Tasks.{Set}
 use Rattle.rules.specs.Refusals.{Judged, gives}
 use Rattle.rules.specs.Image.{timetable-image}
+use Rattle.rules.specs.Located.{located}
 use Rattle.rules.specs.Operations.{rebuilt-image, make-answer, output-after, rebuild, rebuild-output, Rebuilds}
 use Rattle.rules.specs.Promised.{TableImage, RefusesRebuilding}
 use Rattle.rules.proofs.Promises.{rebuilt-images, rebuild-refusals, rebuild-order}
@@ -26,11 +28,11 @@ one-result bytes old r q out other met also = (met .answer ∙ sym (also .answer
 
 module _ (bytes old : List ℕ) (r : MakeAnswer) (out : List ℕ) (met : Rebuilds bytes old r out) where
   -- on a refusal all bytes of the output keep their values
-  pub refused-keeps : (q : Refusal) → r ≡ Refused q → out ≡ old
+  pub refused-keeps : (q : Located) → r ≡ Refused q → out ≡ old
   refused-keeps q e = met .output ∙ rebuild-refusals bytes old q (sym (met .answer) ∙ e) .1
 
   -- it is a refusal exactly where that is the first that the document's order comes to, and 20 is the last
-  pub refused-exactly : Bytes bytes → (q : Refusal) → (r ≡ Refused q) ↔ RefusesRebuilding bytes (length old) q
+  pub refused-exactly : Bytes bytes → (q : Refusal) → (r ≡ Refused (located bytes q)) ↔ RefusesRebuilding bytes (length old) q
   refused-exactly b q =
       let exactly = rebuild-order bytes old b q in
       (λ e. exactly .0 (sym (met .answer) ∙ e), λ w. met .answer ∙ exactly .1 w)
@@ -42,7 +44,7 @@ module _ (bytes old : List ℕ) (r : MakeAnswer) (out : List ℕ) (met : Rebuild
   writes-exactly {ts} {τ} t room =
       let given : rebuilt-image (length old) bytes ≡ gives (timetable-image ts τ) =
       rebuilt-images t (length old) ∙ rw (le-leb (length (timetable-image ts τ)) (length old) room) in
-      (met .answer ∙ ap make-answer given, met .output ∙ ap (λ (z : Judged (List ℕ)). output-after z old) given)
+      (met .answer ∙ ap (make-answer bytes) given, met .output ∙ ap (λ (z : Judged (List ℕ)). output-after z old) given)
 
   -- and a length is answered only where the bytes are such an image, and that timetable's image is what was written
   pub writes-only : Bytes bytes → (n : ℕ) → r ≡ Made n →

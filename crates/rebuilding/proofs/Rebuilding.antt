@@ -7,12 +7,13 @@ use lib.ListN.{length, length-map}
 use borrow.Author.Tests.{le-leb, lt-leb}
 use Rattle.rules.specs.declared.Entry.{Entry}
 use Rattle.rules.specs.declared.Offsets.{Offsets}
-use Rattle.rules.specs.declared.Refusal.{Refusal}
+use Rattle.rules.specs.declared.Located.{Located}
 use Rattle.rules.specs.declared.MakeAnswer.the-variants as make-case
 use Rattle.rules.specs.Refusals.{Judged, gives, refuses, refusal}
 use Rattle.rules.specs.Tasks.{Set, all-jobs, hyperperiod, memory-set}
 use Rattle.rules.specs.Marks.{SL, EN, size, head-length-of, head-count-of}
 use Rattle.rules.specs.Image.{image, records, record-of, head-records, of-entry, timetable-image, head-count}
+use Rattle.rules.specs.Located.{located, RefusedAt}
 use Rattle.rules.specs.Operations.{rebuilt, rebuilt-image, make-answer, output-after, into, rebuild, rebuild-output, Rebuilds}
 use Rattle.rules.proofs.GoodSets.{set-good}
 use Rattle.rules.proofs.ValidTimetables.{no-fault-valid, valid-length}
@@ -26,10 +27,10 @@ use Rattle.writing.proofs.ImagePut.{image-put}
 use Rattle.rebuilding.specs.Rebuilt.{TimetableBehind, entries-bytes, entries-put}
 
 -- what an image is refused with is answered, and the output is as it was
-pub refused-so : (bytes old : List ℕ) (r : Refusal) → rebuilt bytes ≡ refuses r →
+pub refused-so : (bytes old : List ℕ) (r : Located) → RefusedAt bytes (rebuilt bytes) r →
     Rebuilds bytes old (make-case.Refused r) old
 unfolding rebuild rebuild-output
-refused-so bytes old r e = record { answer = rw e; output = rw e }
+refused-so bytes old r e = record { answer = rw (e .judged) (ap make-case.Refused (e .there)); output = rw (e .judged) }
 
 -- behind the tables of an image that is not refused there is a timetable
 pub behind-good : {bytes : List ℕ} {t : Judgement} {kept : Rows} (g : Good bytes t kept) → TimetableBehind bytes (memory-set (t .set)) (t .first) (g .entries)
@@ -62,7 +63,7 @@ module _ (bytes : List ℕ) (ts : Set) (first-at : Offsets) (τ : List Entry) (g
 
     -- an output that is too short is refused, and is as it was
     pub too-short : (old : List ℕ) (n : ℕ) → n ≡ long → length old < n →
-        Rebuilds bytes old (make-case.Refused (refusal 20 0)) old
+        Rebuilds bytes old (make-case.Refused (located bytes (refusal 20 0))) old
     unfolding rebuild rebuild-output
     too-short old n n-is short =
         let e : rebuilt-image (length old) bytes ≡ refuses (refusal 20 0) =
@@ -76,7 +77,7 @@ module _ (bytes : List ℕ) (ts : Set) (first-at : Offsets) (τ : List Entry) (g
       -- else the length of the image is answered
       pub answered : make-case.Made n ≡ rebuild bytes old
       unfolding rebuild
-      answered = ap make-case.Made (n-is ∙ sym image-long) ∙ sym (ap make-answer given)
+      answered = ap make-case.Made (n-is ∙ sym image-long) ∙ sym (ap (make-answer bytes) given)
 
       -- and the set, the entries and EN put one behind the other are the image at the front of the output, with all other bytes as they were
       pub put-out : (set-put entries-in end-put : List ℕ) (end before : ℕ) →

@@ -5,7 +5,7 @@ use images::head_count;
 use images::head_length;
 use rules::MakeAnswer;
 use rules::Offsets;
-use rules::Refusal;
+use rules::TOO_LONG;
 use sets::ALL_JOBS;
 use sets::FIGURES;
 use sets::TASKS;
@@ -43,10 +43,7 @@ pub fn rebuild(image: &[u8], out: &mut [u8]) -> MakeAnswer
     let end = head_length(n) + starts * ENTRY_SIZE;
     let length = end + END_SIZE;
     if out.len() < length {
-        return MakeAnswer::Refused(Refusal {
-            number: 20,
-            place: 0,
-        });
+        return MakeAnswer::Refused(TOO_LONG);
     }
     writing::put_set(out, 1, s);
     put_entries(image, &kept, t.first, out);

@@ -1,5 +1,5 @@
 -- Any two results that meet a contract of this crate are equal; those of `inversion_keeps` where its rows are kept of a set. Assumes nothing.
-use mathlib.Core.Path.{_≡_, sym, _∙_, ap₂}
+use mathlib.Core.Path.{_≡_, sym, _∙_, ap, ap₂}
 use mathlib.Core.Bool.{Bool}
 use mathlib.Core.List.{List}
 use mathlib.Core.Option.{Option}
@@ -7,11 +7,13 @@ use Prim.Native.Nat.{ℕ}
 use lib.ListN.{length, replicate, length-replicate}
 use Rattle.rules.specs.declared.Inversion.{Inversion}
 use Rattle.rules.specs.declared.Refusal.{Refusal}
+use Rattle.rules.specs.declared.Located.{Located}
 use Rattle.rules.specs.declared.Offsets.{Offsets}
 use Rattle.rules.specs.Refusals.{refusal}
 use Rattle.rules.specs.Tasks.{Set, no-task, set-with}
 use Rattle.rules.specs.Setting.{Tables}
 use Rattle.rules.specs.Judging.{inversion-in-range, records-fault}
+use Rattle.rules.specs.Located.{located, bare}
 use Rattle.rules.specs.Offsets.{first-offsets}
 use Rattle.rules.proofs.Cases.{by-eq, clash}
 use Rattle.sets.specs.Sets.{FirstFault}
@@ -36,10 +38,12 @@ one-refusal o a b p y q z =
 
 -- one first fault of the records
 pub one-fault : (bytes : List ℕ) (kept : Rows) (idles inversions : ℕ) → CanJudge bytes kept idles inversions →
-    (a b : Refusal) → RecordsTold bytes kept idles inversions a → RecordsTold bytes kept idles inversions b → a ≡ b
+    (a b : Located) → RecordsTold bytes kept idles inversions a → RecordsTold bytes kept idles inversions b → a ≡ b
 one-fault bytes kept idles inversions can a b p q =
-    one-refusal (records-fault (can .set) (hyperperiod-in kept) (tables-at bytes (tasks-in kept) idles inversions)) a b
-    (p .first (can .set) (can .keeps)) (p .no-place) (q .first (can .set) (can .keeps)) (q .no-place)
+    let same : bare a ≡ bare b =
+    one-refusal (records-fault (can .set) (hyperperiod-in kept) (tables-at bytes (tasks-in kept) idles inversions)) (bare a) (bare b)
+    (p .first (can .set) (can .keeps)) (p .no-place) (q .first (can .set) (can .keeps)) (q .no-place) in
+    p .there ∙ ap (located bytes) same ∙ sym (q .there)
 
 -- offsets as at a cycle's start are the same for any n tasks
 pub one-offsets : (n : ℕ) (X : Tables) (a b : Offsets) → ((ts : Set) → length (ts .tasks) ≡ n → a ≡ first-offsets ts X) →

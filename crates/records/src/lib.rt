@@ -8,8 +8,9 @@ use images::head_count;
 use images::head_length;
 use rules::Idle;
 use rules::Inversion;
+use rules::Located;
+use rules::NO_REFUSAL;
 use rules::Offsets;
-use rules::Refusal;
 use sets::FIGURES;
 use sets::HYPERPERIOD;
 use sets::JOBS;
@@ -74,7 +75,7 @@ fn inversion_at(image: &[u8], at: usize) -> Inversion
 }
 
 // ID records in turn, left from inside with the first that is out of its range or not above the end of the one before. Number 0 where nothing is wrong.
-fn idles_fault(image: &[u8], kept: &[[u32; 16]; 6], idles: usize) -> Refusal
+fn idles_fault(image: &[u8], kept: &[[u32; 16]; 6], idles: usize) -> Located
     requires { ⌜ ((inversions : ℕ) × CanJudge (now image) (now kept) idles inversions) ⌝ }
     ensures { λ r. ⌜ IdlesTold (now (image .entry)) (now (kept .entry)) idles r ⌝ }
 {
@@ -86,16 +87,14 @@ fn idles_fault(image: &[u8], kept: &[[u32; 16]; 6], idles: usize) -> Refusal
     let mut j: usize = 0;
     'idles: loop {
         if idles <= j {
-            break 'idles Refusal {
-                number: 0,
-                place: 0,
-            };
+            break 'idles NO_REFUSAL;
         }
         let r = idle_at(image, at);
         if r.start < from || !idle_keeps(h, r) {
-            break 'idles Refusal {
+            break 'idles Located {
                 number: 17,
                 place: first + j,
+                offset: at,
             };
         }
         from = r.start + r.length + 1;
@@ -115,7 +114,7 @@ fn at_most(i: u32, k: u32, j: u32, l: u32) -> bool
 }
 
 // PV records in turn, left from inside with the first that is out of its range or whose pair (task, job) is not above the one before.
-fn inversions_fault(image: &[u8], kept: &[[u32; 16]; 6], idles: usize, inversions: usize) -> Refusal
+fn inversions_fault(image: &[u8], kept: &[[u32; 16]; 6], idles: usize, inversions: usize) -> Located
     requires { ⌜ CanJudge (now image) (now kept) idles inversions ⌝ }
     ensures { λ r. ⌜ InversionsTold (now (image .entry)) (now (kept .entry)) idles inversions r ⌝ }
 {
@@ -127,16 +126,14 @@ fn inversions_fault(image: &[u8], kept: &[[u32; 16]; 6], idles: usize, inversion
     let mut j: usize = 0;
     'inversions: loop {
         if inversions <= j {
-            break 'inversions Refusal {
-                number: 0,
-                place: 0,
-            };
+            break 'inversions NO_REFUSAL;
         }
         let r = inversion_at(image, at);
         if !at_most(task, job, r.task, r.job) || !inversion_keeps(kept, r) {
-            break 'inversions Refusal {
+            break 'inversions Located {
                 number: 17,
                 place: first + idles + j,
+                offset: at,
             };
         }
         task = r.task;
@@ -152,7 +149,7 @@ pub fn records_fault(
     kept: &[[u32; 16]; 6],
     idles: usize,
     inversions: usize,
-) -> Refusal
+) -> Located
     requires { ⌜ CanJudge (now image) (now kept) idles inversions ⌝ }
     ensures { λ r. ⌜ RecordsTold (now (image .entry)) (now (kept .entry)) idles inversions r ⌝ }
 {

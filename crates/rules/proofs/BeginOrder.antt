@@ -1,9 +1,9 @@
--- Beginning refuses what table checking refuses, with its number and place, and a refused beginning hands back the stopped state. Assumes nothing.
+-- Beginning refuses what table checking refuses, with its number, place and offset, and a refused beginning hands back the stopped state. Assumes nothing.
 use mathlib.Core.Path.{_≡_, refl, sym, _∙_, ap}
 use mathlib.Core.List.{List}
 use Prim.Native.Nat.{ℕ}
 use Rattle.rules.specs.declared.Entry.{Entry}
-use Rattle.rules.specs.declared.Refusal.{Refusal}
+use Rattle.rules.specs.declared.Located.{Located}
 use Rattle.rules.specs.declared.Start.{Start as StartOf}
 use Rattle.rules.specs.declared.CheckAnswer.{CheckAnswer}
 use Rattle.rules.specs.declared.CheckAnswer.the-variants as check-case
@@ -13,6 +13,7 @@ use Rattle.rules.specs.declared.Turn.{Turn}
 use Rattle.rules.specs.Refusals.{Judged, gives, then}
 use Rattle.rules.specs.Priority.{setting}
 use Rattle.rules.specs.Judging.{judge-tables}
+use Rattle.rules.specs.Located.{located}
 use Rattle.rules.specs.Operations.{Tabled, Timed, read-tables, rebuild-from, check-answer, check-tables}
 use Rattle.rules.specs.Offsets.{lent, Standing, NextStart, next-is, stuck, next-start}
 use Rattle.rules.specs.Dispatcher.{set-of, stopped, refused, started, start-next, fresh, at-begin, begin-accepted, begin-framed, begin}
@@ -20,7 +21,7 @@ use Rattle.rules.proofs.Cases.{by-judged, clash}
 use Rattle.rules.proofs.Serving.{first-turn}
 
 -- a next start that is not found leaves the stopped state
-stuck-stopped : (bytes : List ℕ) (s : State) (c : ℕ) (a : Standing (List ℕ)) (r : Refusal) → start-next bytes s c a .answer ≡ Refused r →
+stuck-stopped : (bytes : List ℕ) (s : State) (c : ℕ) (a : Standing (List ℕ)) (r : Located) → start-next bytes s c a .answer ≡ Refused r →
     start-next bytes s c a .state ≡ stopped
 stuck-stopped bytes s c a r = by-found (next-start (setting (set-of s)) (lent bytes (set-of s)) a)
   where
@@ -30,34 +31,38 @@ stuck-stopped bytes s c a r = by-found (next-start (setting (set-of s)) (lent by
 
 module _ (bytes : List ℕ) where
   -- how beginning comes about: table checking refuses the image, or accepts it and the first start is looked for
-  by-beginning : {A : Type 0} → ((r : Refusal) → check-tables bytes ≡ check-case.Refused r → begin bytes ≡ refused r stopped → A) →
+  by-beginning : {A : Type 0} → ((r : Located) → check-tables bytes ≡ check-case.Refused r → begin bytes ≡ refused r stopped → A) →
       ((i : Tabled) → check-tables bytes ≡ check-case.Accepted → begin bytes ≡ first-turn bytes i → A) → A
   unfolding check-tables begin
   by-beginning refusing accepting =
       by-judged (read-tables bytes)
-      (λ i e. let c : check-tables bytes ≡ check-answer (rebuild-from i) = ap (λ (z : Judged Tabled). check-answer (then z rebuild-from)) e in
+      (λ i e. let c : check-tables bytes ≡ check-answer bytes (rebuild-from i) = ap (λ (z : Judged Tabled). check-answer bytes (then z rebuild-from)) e in
       let b : begin bytes ≡ begin-accepted bytes i (judge-tables (i .set) (i .tables)) = ap (begin-framed bytes) e in
       by-judged (judge-tables (i .set) (i .tables)) (λ τ j. accepting i (c ∙ ap (rebuilt-answer i) j) (b ∙ ap (begin-accepted bytes i) j))
-      (λ r j. refusing r (c ∙ ap (rebuilt-answer i) j) (b ∙ ap (begin-accepted bytes i) j)))
-      (λ r e. refusing r (ap (λ (z : Judged Tabled). check-answer (then z rebuild-from)) e) (ap (begin-framed bytes) e))
+      (λ r j. refusing (located bytes r) (c ∙ ap (rebuilt-answer i) j) (b ∙ ap (begin-accepted bytes i) j)))
+      (λ r e. refusing (located bytes r) (ap (λ (z : Judged Tabled). check-answer bytes (then z rebuild-from)) e) (ap (begin-framed bytes) e))
     where
       timed : Tabled → List Entry → Judged Timed
       timed i τ = gives (record { set = i .set; entries = τ })
 
       rebuilt-answer : Tabled → Judged (List Entry) → CheckAnswer
-      rebuilt-answer i z = check-answer (then z (timed i))
+      rebuilt-answer i z = check-answer bytes (then z (timed i))
 
-  -- an image that table checking refuses is refused by beginning with the same number and place, and the state is stopped
-  pub begin-refuses : (r : Refusal) → check-tables bytes ≡ check-case.Refused r → begin bytes ≡ refused r stopped
+  -- table checking refuses it or accepts it
+  pub by-check : {A : Type 0} → ((r : Located) → check-tables bytes ≡ check-case.Refused r → A) → (check-tables bytes ≡ check-case.Accepted → A) → A
+  by-check refusing accepting = by-beginning (λ r c b. refusing r c) (λ i c b. accepting c)
+
+  -- an image that table checking refuses is refused by beginning with the same number, place and offset, and the state is stopped
+  pub begin-refuses : (r : Located) → check-tables bytes ≡ check-case.Refused r → begin bytes ≡ refused r stopped
   begin-refuses r c =
-      by-beginning (λ q d b. let e : q ≡ r = cc in b ∙ ap (λ (z : Refusal). refused z stopped) e) (λ i d b. clash (cc))
+      by-beginning (λ q d b. let e : q ≡ r = cc in b ∙ ap (λ (z : Located). refused z stopped) e) (λ i d b. clash (cc))
 
   -- a start is begun only from an image that table checking accepts
   pub begin-accepts : (s : StartOf) → begin bytes .answer ≡ Start s → check-tables bytes ≡ check-case.Accepted
   begin-accepts s e = by-beginning (λ r c b. let g : Refused r ≡ Start s = sym (ap (λ (t : Turn). t .answer) b) ∙ e in clash (cc)) (λ i c b. c)
 
   -- a refused beginning hands back the stopped state
-  pub refused-stopped : (r : Refusal) → begin bytes .answer ≡ Refused r → begin bytes .state ≡ stopped
+  pub refused-stopped : (r : Located) → begin bytes .answer ≡ Refused r → begin bytes .state ≡ stopped
   refused-stopped r e =
       by-beginning (λ q c b. ap (λ (t : Turn). t .state) b)
       (λ i c b. ap (λ (t : Turn). t .state) b

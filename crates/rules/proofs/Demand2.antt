@@ -121,9 +121,9 @@ one-timetable-behind {bytes} {ts} {us} {τ} {σ} t u =
     (ap (λ (i : Timed). i .set) same, ap (λ (i : Timed). i .entries) same)
 
 -- what plain checking accepts has been judged
-accepted-gives : {A B : Type 0} (z : Judged A) → check-answer z ≡ Accepted → ((a : A) → z ≡ gives a → B) → B
-accepted-gives (gives a) e go = go a refl
-accepted-gives (refuses r) e go = clash (cc)
+accepted-gives : {A B : Type 0} (bytes : List ℕ) (z : Judged A) → check-answer bytes z ≡ Accepted → ((a : A) → z ≡ gives a → B) → B
+accepted-gives bytes (gives a) e go = go a refl
+accepted-gives bytes (refuses r) e go = clash (cc)
 
 module _ (bytes : List ℕ) (b : Bytes bytes) where
   -- bytes from which tables are derived are a timetable image
@@ -158,12 +158,12 @@ module _ (bytes : List ℕ) (b : Bytes bytes) where
   -- a timetable image is accepted exactly when it is that of a good set and a valid timetable
   pub accepts-timetable : (check-timetable bytes ≡ Accepted) ↔ ((ts : Set) × (τ : List Entry) × TimetableImage bytes ts τ)
   unfolding check-timetable
-  accepts-timetable = (λ e. accepted-gives (derived bytes) e derived-of, λ w. ap check-answer (derives (w .2)))
+  accepts-timetable = (λ e. accepted-gives bytes (derived bytes) e derived-of, λ w. ap (check-answer bytes) (derives (w .2)))
 
   -- a table image is accepted exactly when it is that of a good set and of the tables of a valid timetable
   pub accepts-tables : (check-tables bytes ≡ Accepted) ↔ ((ts : Set) × (τ : List Entry) × TableImage bytes ts τ)
   unfolding check-tables
-  accepts-tables = (λ e. accepted-gives (rebuilt bytes) e rebuilt-of, λ w. ap check-answer (rebuilds (w .2)))
+  accepts-tables = (λ e. accepted-gives bytes (rebuilt bytes) e rebuilt-of, λ w. ap (check-answer bytes) (rebuilds (w .2)))
 
 -- what an output takes is the whole result
 into-gives : (room : ℕ) (bytes result : List ℕ) → into room bytes ≡ gives result → result ≡ bytes
@@ -174,22 +174,22 @@ pub into-fits : (room : ℕ) (bytes : List ℕ) → length bytes ≤ room → in
 into-fits room bytes l = rw (le-leb (length bytes) room l)
 
 -- an answer with a length: there is a result, and the front of the output is that result
-made-gives : (z : Judged (List ℕ)) (old : List ℕ) (n : ℕ) → make-answer z ≡ Made n →
+made-gives : (bytes : List ℕ) (z : Judged (List ℕ)) (old : List ℕ) (n : ℕ) → make-answer bytes z ≡ Made n →
     (result : List ℕ) × (z ≡ gives result) × (take n (output-after z old) ≡ result)
-made-gives (gives result) old n e = (result, refl, take-at result _ n (cc))
-made-gives (refuses r) old n e = clash (cc)
+made-gives bytes (gives result) old n e = (result, refl, take-at result _ n (cc))
+made-gives bytes (refuses r) old n e = clash (cc)
 
 -- where there is a result, its length is answered, and it fills the front of the output
-pub gives-made : (z : Judged (List ℕ)) (result out : List ℕ) → z ≡ gives result →
-    (make-answer z ≡ Made (length result)) × (output-after z out ≡ result ++ drop (length result) out)
-gives-made z result out e = (rw e, rw e)
+pub gives-made : (bytes : List ℕ) (z : Judged (List ℕ)) (result out : List ℕ) → z ≡ gives result →
+    (make-answer bytes z ≡ Made (length result)) × (output-after z out ≡ result ++ drop (length result) out)
+gives-made bytes z result out e = (rw e, rw e)
 
 module _ (bytes old : List ℕ) (n : ℕ) (b : Bytes bytes) where
   -- where deriving answers with a length, the bytes are a timetable image, and the front of the output is that of its tables
   pub derive-made : derive bytes old ≡ Made n → (ts : Set) × (τ : List Entry) × TimetableImage bytes ts τ × (take n (derive-output bytes old) ≡ table-image ts (tables ts τ))
   unfolding derive derive-output
   derive-made e =
-      let m = made-gives (derived-image (length old) bytes) old n e in
+      let m = made-gives bytes (derived-image (length old) bytes) old n e in
       then-gives (derived bytes) (write-tables (length old)) (m .0) (m .1)
       (λ i d _. let w = derived-of bytes b i d in
       (w .0, w .1, w .2, m .2 ∙ into-gives (length old) _ (m .0) (sym (derives-image (w .2) (length old)) ∙ m .1)))
@@ -198,7 +198,7 @@ module _ (bytes old : List ℕ) (n : ℕ) (b : Bytes bytes) where
   pub rebuild-made : rebuild bytes old ≡ Made n → (ts : Set) × (τ : List Entry) × TableImage bytes ts τ × (take n (rebuild-output bytes old) ≡ timetable-image ts τ)
   unfolding rebuild rebuild-output
   rebuild-made e =
-      let m = made-gives (rebuilt-image (length old) bytes) old n e in
+      let m = made-gives bytes (rebuilt-image (length old) bytes) old n e in
       then-gives (rebuilt bytes) (write-timetable (length old)) (m .0) (m .1)
       (λ i d _. let w = rebuilt-of bytes b i d in
       (w .0, w .1, w .2, m .2 ∙ into-gives (length old) _ (m .0) (sym (rebuilds-image (w .2) (length old)) ∙ m .1)))
@@ -211,7 +211,7 @@ module _ (bytes old : List ℕ) (n : ℕ) (b : Bytes bytes) where
   rebuild-after-derive e out l =
       let w = derive-made e in
       rw (w .3)
-      (gives-made (rebuilt-image (length out) (table-image (w .0) (tables (w .0) (w .1)))) bytes out
+      (gives-made _ (rebuilt-image (length out) (table-image (w .0) (tables (w .0) (w .1)))) bytes out
       (rebuilds-image (image-of-tables (w .2)) (length out) ∙ ap (into (length out)) (sym (w .2 .is)) ∙ into-fits (length out) bytes l))
 
   -- and deriving from what was rebuilt
@@ -222,5 +222,5 @@ module _ (bytes old : List ℕ) (n : ℕ) (b : Bytes bytes) where
   derive-after-rebuild e out l =
       let w = rebuild-made e in
       rw (w .3)
-      (gives-made (derived-image (length out) (timetable-image (w .0) (w .1))) bytes out
+      (gives-made _ (derived-image (length out) (timetable-image (w .0) (w .1))) bytes out
       (derives-image (image-of-timetable (w .2)) (length out) ∙ ap (into (length out)) (sym (tables-are (w .2))) ∙ into-fits (length out) bytes l))

@@ -16,6 +16,7 @@ use Rattle.rules.specs.Tasks.{Set, task, release, due, all-jobs, hyperpe
 use Rattle.rules.specs.Timetable.{entry-at, job-at, end-at}
 use Rattle.rules.specs.Setting.{Tables}
 use Rattle.rules.specs.Operations.{rebuilt}
+use Rattle.rules.specs.Located.{located}
 use Rattle.rules.specs.Dispatcher.{Shaped, refused, last-cycle, go-on}
 use Rattle.rules.specs.Calls.{Honest, Log, begun, went-on, all-starts, start-of}
 use Rattle.rules.proofs.Cases.{by-le}
@@ -91,12 +92,12 @@ module _ (bytes : List ℕ) (are-bytes : Bytes bytes) (ts : Set) (τ : List Entr
     starts-in-time = rw start-is (omega (arith, its-service .valid .in-time (k % length τ) (an-entry k)))
 
     -- an end before it is refused with 21, and the state stays
-    pub refuses-early : (end : ℕ) → end < s .time → go-on bytes d end ≡ refused (refusal 21 0) d
+    pub refuses-early : (end : ℕ) → end < s .time → go-on bytes d end ≡ refused (located bytes (refusal 21 0)) d
     refuses-early end early = early-refused bytes ts its-tables τ its-service (serves-nth log lt) (an-entry k) end early
 
   -- after the last start of the last cycle an honest end is refused with 24, and the state stays
   pub after-the-last : {k : ℕ} {s : StartOf} {d : State} → Log bytes ts k (Start s) d → suc k ≡ all-starts τ → (end : ℕ) → Honest ts s end →
-      go-on bytes d end ≡ refused (refusal 24 0) d
+      go-on bytes d end ≡ refused (located bytes (refusal 24 0)) d
   after-the-last {k} log last end honest =
       let r : ℕ = length τ - 1 in
       let l : r < length τ = omega (arith, at-least-one) in

@@ -2,7 +2,7 @@
 use mathlib.Core.Path.{_≡_, refl, sym, _∙_}
 use mathlib.Core.Bool.{Bool, true, false}
 use mathlib.Core.List.{List, [], _∷_, _++_}
-use mathlib.Core.Option.{Option, none}
+use mathlib.Core.Option.{Option, none, some}
 use Prim.Native.Nat.{ℕ, zero, suc, _+_, _≤_, _<_}
 use native.Mathlib.Omega.{arith}
 use Rattle.rules.specs.declared.Refusal.{Refusal}
@@ -86,3 +86,27 @@ module _ (tests : ℕ → List Test) where
   none-holds-in-turn j (suc left) each =
       both-none-hold (tests j) (in-turn tests (suc j) left) (each j (omega arith) (omega arith))
       (none-holds-in-turn (suc j) left (λ k lo hi. each k (omega arith) (omega arith)))
+
+-- every test's refusal has a property
+abbrev pub EachRefusal : (Refusal → Type 0) → List Test → Type 0
+EachRefusal P [] = Unit {0}
+EachRefusal P (t ∷ tests) = P (t .with-refusal) × EachRefusal P tests
+
+module _ (P : Refusal → Type 0) where
+  -- of two lists of tests too
+  pub each-of-both : (a b : List Test) → EachRefusal P a → EachRefusal P b → EachRefusal P (a ++ b)
+  each-of-both [] b y z = z
+  each-of-both (t ∷ a) b y z = (y .0, each-of-both a b (y .1) z)
+
+  -- and of tests in turn, where it is so at every place
+  pub each-in-turn : (tests : ℕ → List Test) (j left : ℕ) → ((k : ℕ) → j ≤ k → k < j + left → EachRefusal P (tests k)) → EachRefusal P (in-turn tests j left)
+  each-in-turn tests j zero each = tt
+  each-in-turn tests j (suc left) each =
+      each-of-both (tests j) (in-turn tests (suc j) left) (each j (omega arith) (omega arith))
+      (each-in-turn tests (suc j) left (λ k lo hi. each k (omega arith) (omega arith)))
+
+  -- then so has the first that comes
+  pub first-has : {tests : List Test} {o : Option Refusal} → First tests o → EachRefusal P tests → (r : Refusal) → o ≡ some r → P r
+  first-has no-test z r e = clash (cc)
+  first-has (holds {t = t} c) z r e = let same : t .with-refusal ≡ r = cc in rw (← same) (z .0)
+  first-has (passes n f) z r e = first-has f (z .1) r e

@@ -7,11 +7,11 @@ use Prim.Native.Nat.{ℕ, suc, _≤_, _<_}
 use native.Mathlib.Omega.{arith}
 use lib.Dec.{ltb}
 use borrow.Author.Tests.{ltb-true, ltb-false}
-use Rattle.rules.specs.declared.Refusal.{Refusal}
+use Rattle.rules.specs.declared.Located.{Located}
 use Rattle.rules.specs.declared.StartAnswer.the-variants.{Refused}
 use Rattle.rules.specs.declared.Dispatcher.{Dispatcher as State}
 use Rattle.rules.specs.declared.Turn.{Turn}
-use Rattle.rules.specs.Refusals.{refusal, test, First, no-test, holds, passes}
+use Rattle.rules.specs.Refusals.{refusal, of-no-image, test, First, no-test, holds, passes}
 use Rattle.rules.specs.Tasks.{hyperperiod}
 use Rattle.rules.specs.Priority.{all-started, setting}
 use Rattle.rules.specs.Offsets.{lent, Standing, next-start}
@@ -97,13 +97,13 @@ module _ (bytes : List ℕ) (s : State) where
       not-below : (u v : ℕ) → ltb u v ≡ false → u < v → ⊥
       not-below u v e l = omega (arith, ltb-false u v e)
 
--- what a turn of the dispatcher leaves, if it refuses: place 0, and the state that the number says
+-- what a turn of the dispatcher leaves, if it refuses: place and offset 0, and the state that the number says
 abbrev LeavesIfRefused : State → Turn → Type 0
-LeavesIfRefused s t = (r : Refusal) → t .answer ≡ Refused r → (r .place ≡ 0) × Leaves s (r .number) (t .state)
+LeavesIfRefused s t = (r : Located) → t .answer ≡ Refused r → (r .place ≡ 0) × (r .offset ≡ 0) × Leaves s (r .number) (t .state)
 
 -- a refusal whose number leaves a state
-refused-leaves : {s after : State} {number : ℕ} → Leaves s number after → LeavesIfRefused s (refused (refusal number 0) after)
-refused-leaves {s} {after} {number} l r e = let q : refusal number 0 ≡ r = cc in rw (← q) (refl, l)
+refused-leaves : {s after : State} {number : ℕ} → Leaves s number after → LeavesIfRefused s (refused (of-no-image (refusal number 0)) after)
+refused-leaves {s} {after} {number} l r e = let q : of-no-image (refusal number 0) ≡ r = cc in rw (← q) (refl, refl, l)
 
 module _ (bytes : List ℕ) (s : State) where
   -- looking for the next start
@@ -121,8 +121,8 @@ module _ (bytes : List ℕ) (s : State) where
       (λ b. rw (a, b, next-turn) (refused-leaves all-done)))
       (λ a. rw (a, next-turn) (start-leaves (s .cycle) (after-running s)))
 
-  -- a refusal of going on has place 0 and leaves the state that its number says
-  pub going-leaves : (end : ℕ) (r : Refusal) → go-on bytes s end .answer ≡ Refused r → (r .place ≡ 0) × Leaves s (r .number) (go-on bytes s end .state)
+  -- a refusal of going on has place and offset 0 and leaves the state that its number says
+  pub going-leaves : (end : ℕ) (r : Located) → go-on bytes s end .answer ≡ Refused r → (r .place ≡ 0) × (r .offset ≡ 0) × Leaves s (r .number) (go-on bytes s end .state)
   unfolding go-on
   going-leaves end =
       by-bool (is-stopped s) (λ a. rw (a, go-on) (refused-leaves was-stopped))

@@ -11,6 +11,7 @@ use lib.ListN.{length}
 use borrow.Author.Tests.{leb-false, lt-leb}
 use Rattle.rules.specs.declared.Entry.{Entry}
 use Rattle.rules.specs.declared.Refusal.{Refusal}
+use Rattle.rules.specs.declared.Located.{Located}
 use Rattle.rules.specs.declared.CheckAnswer.the-variants as check-case
 use Rattle.rules.specs.declared.MakeAnswer.the-variants as make-case
 use Rattle.rules.specs.Refusals.{Judged, gives, refuses, refusal, or-else, then, first, unless, First}
@@ -22,9 +23,11 @@ use Rattle.rules.specs.Judging.{timetable-fault, tables, judge-timetable
 use Rattle.rules.specs.Order.{timetable-tests, record-tests, RefusesTables}
 use Rattle.rules.specs.Framing.{frame}
 use Rattle.rules.specs.Image.{timetable-image, table-image, head-count}
-use Rattle.rules.specs.Operations.{read-timetable, read-tables, derive-from, rebuild-from, derived, rebuilt, check-answer, check-timetable, check-tables, into, write-tables, write-timetable, derived-image, rebuilt-image, make-answer, output-after, derive, derive-output, rebuild, rebuild-output}
+use Rattle.rules.specs.Located.{located, bare, RefusedAt}
+use Rattle.rules.specs.Operations.{Timed, Tabled, read-timetable, read-tables, derive-from, rebuild-from, derived, rebuilt, check-answer, check-timetable, check-tables, into, write-tables, write-timetable, derived-image, rebuilt-image, make-answer, output-after, derive, derive-output, rebuild, rebuild-output}
 use Rattle.rules.specs.Promised.{TimetableImage, TableImage, RefusesTimetableImage, RefusesTableImage}
 use Rattle.rules.proofs.Cases.{clash, first-none}
+use Rattle.rules.proofs.Locations.{refused-at}
 use Rattle.rules.proofs.FirstTests.{one-first}
 use Rattle.rules.proofs.LateJobs.{late-refused, refused-late, replays-given, given-replays}
 use Rattle.rules.proofs.Differences.{differs-at, difference-found}
@@ -100,43 +103,53 @@ module _ (ts : Set) (X : Tables) where
     refuses-judged,
   )
 
--- plain checking tells the refusal that judging came to
-check-refuses : {A : Type 0} (z : Judged A) (r : Refusal) → check-answer z ≡ check-case.Refused r → z ≡ refuses r
-check-refuses (gives a) r e = clash (cc)
-check-refuses (refuses s) r e = cc
+-- plain checking tells the refusal that judging came to, located in the image
+check-refuses : {A : Type 0} (bytes : List ℕ) (z : Judged A) (r : Located) → check-answer bytes z ≡ check-case.Refused r → RefusedAt bytes z r
+check-refuses bytes (gives a) r e = clash (cc)
+check-refuses bytes (refuses s) r e = refused-at bytes s r (cc)
 
 -- and so do deriving and rebuilding
-make-refuses : (z : Judged (List ℕ)) (r : Refusal) → make-answer z ≡ make-case.Refused r → z ≡ refuses r
-make-refuses (gives bytes) r e = clash (cc)
-make-refuses (refuses s) r e = cc
+make-refuses : (bytes : List ℕ) (z : Judged (List ℕ)) (r : Located) → make-answer bytes z ≡ make-case.Refused r → RefusedAt bytes z r
+make-refuses bytes (gives result) r e = clash (cc)
+make-refuses bytes (refuses s) r e = refused-at bytes s r (cc)
+
+module _ (bytes : List ℕ) (r : Located) where
+  -- so with checking of both kinds
+  pub timetable-refused-at : check-timetable bytes ≡ check-case.Refused r → RefusedAt bytes (derived bytes) r
+  unfolding check-timetable
+  timetable-refused-at e = check-refuses bytes (derived bytes) r e
+
+  pub tables-refused-at : check-tables bytes ≡ check-case.Refused r → RefusedAt bytes (rebuilt bytes) r
+  unfolding check-tables
+  tables-refused-at e = check-refuses bytes (rebuilt bytes) r e
 
 module _ (bytes : List ℕ) where
   -- checking a timetable image refuses as the document does
-  pub timetable-refusals : (r : Refusal) → check-timetable bytes ≡ check-case.Refused r → RefusesTimetableImage bytes r
-  unfolding check-timetable
+  pub timetable-refusals : (r : Located) → check-timetable bytes ≡ check-case.Refused r → RefusesTimetableImage bytes (bare r)
   timetable-refusals r e =
-      by-then (read-timetable bytes) derive-from r (check-refuses (derived bytes) r e)
-      (λ q. RefusesTimetableImage.by-framing (framing-order 1 bytes r .0 (refused-before (frame 1 bytes) _ r q)))
+      let s = bare r in
+      by-then (read-timetable bytes) derive-from s (timetable-refused-at bytes r e .judged)
+      (λ q. RefusesTimetableImage.by-framing (framing-order 1 bytes s .0 (refused-before (frame 1 bytes) _ s q)))
       (λ i q d. RefusesTimetableImage.by-a-test q
-      (timetable-refused (i .set) (i .entries) r .0 (refused-before (judge-timetable (i .set) (i .entries)) _ r d)))
+      (timetable-refused (i .set) (i .entries) s .0 (refused-before (judge-timetable (i .set) (i .entries)) _ s d)))
 
   -- and the other way round
-  pub refuses-timetable : {r : Refusal} → RefusesTimetableImage bytes r → check-timetable bytes ≡ check-case.Refused r
+  pub refuses-timetable : {r : Refusal} → RefusesTimetableImage bytes r → check-timetable bytes ≡ check-case.Refused (located bytes r)
   unfolding check-timetable
   refuses-timetable {r} (RefusesTimetableImage.by-framing q) = rw (framing-order 1 bytes r .1 q)
   refuses-timetable {r} (RefusesTimetableImage.by-a-test {i = i} q f) = rw (q, timetable-refused (i .set) (i .entries) r .1 f)
 
   -- checking a table image refuses as the document does
-  pub table-refusals : (r : Refusal) → check-tables bytes ≡ check-case.Refused r → RefusesTableImage bytes r
-  unfolding check-tables
+  pub table-refusals : (r : Located) → check-tables bytes ≡ check-case.Refused r → RefusesTableImage bytes (bare r)
   table-refusals r e =
-      by-then (read-tables bytes) rebuild-from r (check-refuses (rebuilt bytes) r e)
-      (λ q. RefusesTableImage.by-framing (framing-order 2 bytes r .0 (refused-before (frame 2 bytes) _ r q)))
+      let s = bare r in
+      by-then (read-tables bytes) rebuild-from s (tables-refused-at bytes r e .judged)
+      (λ q. RefusesTableImage.by-framing (framing-order 2 bytes s .0 (refused-before (frame 2 bytes) _ s q)))
       (λ i q d. RefusesTableImage.by-its-tables q
-      (tables-refused (i .set) (i .tables) r .0 (refused-before (judge-tables (i .set) (i .tables)) _ r d)))
+      (tables-refused (i .set) (i .tables) s .0 (refused-before (judge-tables (i .set) (i .tables)) _ s d)))
 
   -- and the other way round
-  pub refuses-tables : {r : Refusal} → RefusesTableImage bytes r → check-tables bytes ≡ check-case.Refused r
+  pub refuses-tables : {r : Refusal} → RefusesTableImage bytes r → check-tables bytes ≡ check-case.Refused (located bytes r)
   unfolding check-tables
   refuses-tables {r} (RefusesTableImage.by-framing q) = rw (framing-order 2 bytes r .1 q)
   refuses-tables {r} (RefusesTableImage.by-its-tables {i = i} q f) = rw (q, tables-refused (i .set) (i .tables) r .1 f)
@@ -157,61 +170,77 @@ too-long : (room : ℕ) (bytes : List ℕ) → room < length bytes → into room
 too-long room bytes l = rw (lt-leb (length bytes) room l)
 
 -- so the answer is 20 exactly where the result is longer than the output
-refused-too-long : (room : ℕ) (bytes : List ℕ) (z : Judged (List ℕ)) → z ≡ into room bytes →
-    (make-answer z ≡ make-case.Refused (refusal 20 0)) ↔ (room < length bytes)
-refused-too-long room bytes z e = (
-  λ q. into-refuses room bytes (refusal 20 0) (sym e ∙ make-refuses z (refusal 20 0) q) .0,
-  λ l. ap make-answer (e ∙ too-long room bytes l),
+refused-too-long : (bytes : List ℕ) (room : ℕ) (result : List ℕ) (z : Judged (List ℕ)) → z ≡ into room result →
+    (make-answer bytes z ≡ make-case.Refused (located bytes (refusal 20 0))) ↔ (room < length result)
+refused-too-long bytes room result z e = (
+  λ q. into-refuses room result (refusal 20 0) (sym e ∙ make-refuses bytes z _ q .judged) .0,
+  λ l. ap (make-answer bytes) (e ∙ too-long room result l),
 )
 
 -- a refusal leaves every byte of the output as it was
-refusal-keeps : (z : Judged (List ℕ)) (old : List ℕ) (r : Refusal) → make-answer z ≡ make-case.Refused r → output-after z old ≡ old
-refusal-keeps z old r e = rw (make-refuses z r e)
+refusal-keeps : (bytes : List ℕ) (z : Judged (List ℕ)) (old : List ℕ) (r : Located) → make-answer bytes z ≡ make-case.Refused r → output-after z old ≡ old
+refusal-keeps bytes z old r e = rw (make-refuses bytes z r e .judged)
 
-module _ (bytes old : List ℕ) (r : Refusal) where
+module _ (bytes old : List ℕ) (r : Located) where
   -- deriving refuses what checking refuses, in the same way
   pub refused-derive : check-timetable bytes ≡ check-case.Refused r → derive bytes old ≡ make-case.Refused r
-  unfolding check-timetable derive
-  refused-derive e = rw (check-refuses (derived bytes) r e)
+  unfolding derive
+  refused-derive e =
+      let w = timetable-refused-at bytes r e in
+      ap (λ (z : Judged Tabled). make-answer bytes (then z (write-tables (length old)))) (w .judged) ∙ ap make-case.Refused (sym (w .there))
+
+  -- what it refuses is located
+  pub derive-refused-at : derive bytes old ≡ make-case.Refused r → r ≡ located bytes (bare r)
+  unfolding derive
+  derive-refused-at e = make-refuses bytes (derived-image (length old) bytes) r e .there
 
   -- and otherwise only with 20, last
   pub derive-refuses : derive bytes old ≡ make-case.Refused r →
-      (check-timetable bytes ≡ check-case.Refused r) ⊎ ((r ≡ refusal 20 0) × (check-timetable bytes ≡ check-case.Accepted))
+      (check-timetable bytes ≡ check-case.Refused r) ⊎ ((r ≡ located bytes (refusal 20 0)) × (check-timetable bytes ≡ check-case.Accepted))
   unfolding check-timetable derive
   derive-refuses e =
-      by-then (derived bytes) (write-tables (length old)) r (make-refuses (derived-image (length old) bytes) r e) (λ q. inl (rw q))
-      (λ i q d. inr (into-refuses (length old) (table-image (i .set) (i .tables)) r d .1, rw q))
+      let w = make-refuses bytes (derived-image (length old) bytes) r e in
+      by-then (derived bytes) (write-tables (length old)) (bare r) (w .judged) (λ q. inl (ap (check-answer bytes) q ∙ ap check-case.Refused (sym (w .there))))
+      (λ i q d. inr (w .there ∙ ap (located bytes) (into-refuses (length old) (table-image (i .set) (i .tables)) (bare r) d .1), ap (check-answer bytes) q))
 
   -- it then leaves every byte of the output as it was
   pub derive-keeps : derive bytes old ≡ make-case.Refused r → derive-output bytes old ≡ old
   unfolding derive derive-output
-  derive-keeps e = refusal-keeps (derived-image (length old) bytes) old r e
+  derive-keeps e = refusal-keeps bytes (derived-image (length old) bytes) old r e
 
   -- rebuilding refuses what checking refuses, in the same way
   pub refused-rebuild : check-tables bytes ≡ check-case.Refused r → rebuild bytes old ≡ make-case.Refused r
-  unfolding check-tables rebuild
-  refused-rebuild e = rw (check-refuses (rebuilt bytes) r e)
+  unfolding rebuild
+  refused-rebuild e =
+      let w = tables-refused-at bytes r e in
+      ap (λ (z : Judged Timed). make-answer bytes (then z (write-timetable (length old)))) (w .judged) ∙ ap make-case.Refused (sym (w .there))
+
+  -- what it refuses is located
+  pub rebuild-refused-at : rebuild bytes old ≡ make-case.Refused r → r ≡ located bytes (bare r)
+  unfolding rebuild
+  rebuild-refused-at e = make-refuses bytes (rebuilt-image (length old) bytes) r e .there
 
   -- and otherwise only with 20, last
   pub rebuild-refuses : rebuild bytes old ≡ make-case.Refused r →
-      (check-tables bytes ≡ check-case.Refused r) ⊎ ((r ≡ refusal 20 0) × (check-tables bytes ≡ check-case.Accepted))
+      (check-tables bytes ≡ check-case.Refused r) ⊎ ((r ≡ located bytes (refusal 20 0)) × (check-tables bytes ≡ check-case.Accepted))
   unfolding check-tables rebuild
   rebuild-refuses e =
-      by-then (rebuilt bytes) (write-timetable (length old)) r (make-refuses (rebuilt-image (length old) bytes) r e) (λ q. inl (rw q))
-      (λ i q d. inr (into-refuses (length old) (timetable-image (i .set) (i .entries)) r d .1, rw q))
+      let w = make-refuses bytes (rebuilt-image (length old) bytes) r e in
+      by-then (rebuilt bytes) (write-timetable (length old)) (bare r) (w .judged) (λ q. inl (ap (check-answer bytes) q ∙ ap check-case.Refused (sym (w .there))))
+      (λ i q d. inr (w .there ∙ ap (located bytes) (into-refuses (length old) (timetable-image (i .set) (i .entries)) (bare r) d .1), ap (check-answer bytes) q))
 
   -- it then leaves every byte of the output as it was
   pub rebuild-keeps : rebuild bytes old ≡ make-case.Refused r → rebuild-output bytes old ≡ old
   unfolding rebuild rebuild-output
-  rebuild-keeps e = refusal-keeps (rebuilt-image (length old) bytes) old r e
+  rebuild-keeps e = refusal-keeps bytes (rebuilt-image (length old) bytes) old r e
 
 module _ {bytes : List ℕ} {ts : Set} {τ : List Entry} (old : List ℕ) where
   -- deriving from an accepted image refuses exactly when the result is longer than the output
-  pub derive-too-long : TimetableImage bytes ts τ → (derive bytes old ≡ make-case.Refused (refusal 20 0)) ↔ (length old < length (table-image ts (tables ts τ)))
+  pub derive-too-long : TimetableImage bytes ts τ → (derive bytes old ≡ make-case.Refused (located bytes (refusal 20 0))) ↔ (length old < length (table-image ts (tables ts τ)))
   unfolding derive
-  derive-too-long t = refused-too-long (length old) (table-image ts (tables ts τ)) (derived-image (length old) bytes) (derives-image t (length old))
+  derive-too-long t = refused-too-long bytes (length old) (table-image ts (tables ts τ)) (derived-image (length old) bytes) (derives-image t (length old))
 
   -- and so does rebuilding
-  pub rebuild-too-long : TableImage bytes ts τ → (rebuild bytes old ≡ make-case.Refused (refusal 20 0)) ↔ (length old < length (timetable-image ts τ))
+  pub rebuild-too-long : TableImage bytes ts τ → (rebuild bytes old ≡ make-case.Refused (located bytes (refusal 20 0))) ↔ (length old < length (timetable-image ts τ))
   unfolding rebuild
-  rebuild-too-long t = refused-too-long (length old) (timetable-image ts τ) (rebuilt-image (length old) bytes) (rebuilds-image t (length old))
+  rebuild-too-long t = refused-too-long bytes (length old) (timetable-image ts τ) (rebuilt-image (length old) bytes) (rebuilds-image t (length old))

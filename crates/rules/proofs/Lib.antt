@@ -33,12 +33,15 @@ pub mod Shapes
 pub mod Held
 pub mod Images
 pub mod FramingOrder
+pub mod RecordOffsets
 pub mod Writable
 pub mod HasTables
+pub mod Locations
 pub mod Demand2
 pub mod ImageOrder
 pub mod MakingOrder
 pub mod RefusalNumbers
+pub mod RefusalPlaces
 pub mod NextTurns
 pub mod StuckStarts
 pub mod PossibleStates

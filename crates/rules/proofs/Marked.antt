@@ -11,7 +11,7 @@ use lib.ListN.{getD}
 use borrow.Author.Tests.{ltb-true, ltb-false, leb-true, eqb-true}
 use Rattle.rules.specs.declared.Place.{Place}
 use Rattle.rules.specs.Tasks.{both}
-use Rattle.rules.specs.Marks.{Mark, TS, TK, SL, ID, PV, EN, Class, head-class, task-class, option-class, listed-class, inversion-class, end-class, Row, row, marks, mark-in}
+use Rattle.rules.specs.Marks.{Mark, TS, TK, SL, ID, PV, EN, Class, head-class, task-class, option-class, listed-class, inversion-class, end-class, Row, row, marks, mark-in, front-mark}
 use Rattle.rules.specs.Framing.{in-kind, may-follow, allowed, if-allowed, mark-at, least-behind, Allowed}
 use Rattle.rules.proofs.Cases.{by-bool, clash, both-true, both-in}
 
@@ -103,12 +103,15 @@ later-turn least rank r h =
     (λ c. let k : rank ≡ least = eqb-true rank least (rw (c, may-follow) at h) in absurd (omega (arith, ltb-true least 2 c)))
     (λ c. (ltb-false least 2 c, leb-true least rank (rw (c, may-follow) at h)))
 
+-- a mark's two bytes at the front of bytes are that mark
+pub mark-front : (bytes : List ℕ) (m : Mark) → getD bytes 0 0 ≡ row m .byte₁ → getD bytes 1 0 ≡ row m .byte₂ → front-mark bytes ≡ some m
+mark-front bytes m a b = ap₂ (mark-in marks) a b ∙ mark-found m
+
 module _ (kind : ℕ) (s : Place) (bytes : List ℕ) where
   -- the mark that is found is allowed
   pub found-allowed : (m : Mark) → mark-at kind s bytes ≡ some m → Allowed kind s bytes m
   found-allowed m e =
-      let found = mark-in marks (getD bytes 0 0) (getD bytes 1 0) in
-      let k = kept-mark kind s found m e in
+      let k = kept-mark kind s (front-mark bytes) m e in
       let b = found-mark marks (getD bytes 0 0) (getD bytes 1 0) m (k .0) in
       let a = both-true (in-kind kind (row m)) (may-follow (s .rank) (row m .rank)) (k .1) in
       record { first-byte = b .0; second-byte = b .1; of-kind = a .0; its-turn = a .1 }
@@ -117,7 +120,7 @@ module _ (kind : ℕ) (s : Place) (bytes : List ℕ) where
   pub allowed-found : (m : Mark) → Allowed kind s bytes m → mark-at kind s bytes ≡ some m
   allowed-found m a =
       let may : allowed kind s m ≡ true = both-in (in-kind kind (row m)) (may-follow (s .rank) (row m .rank)) (a .of-kind) (a .its-turn) in
-      ap₂ (λ (a b : ℕ). if-allowed kind s (mark-in marks a b)) (a .first-byte) (a .second-byte) ∙ rw (mark-found m, may, if-allowed)
+      rw (mark-front bytes m (a .first-byte) (a .second-byte), may, if-allowed)
 
   -- one mark at most is allowed
   pub one-allowed : (m k : Mark) → Allowed kind s bytes m → Allowed kind s bytes k → m ≡ k

@@ -13,15 +13,18 @@ use Rattle.rules.specs.declared.TaskSet.{TaskSet}
 use Rattle.rules.specs.declared.Entry.{Entry}
 use Rattle.rules.specs.declared.Idle.{Idle}
 use Rattle.rules.specs.declared.Refusal.{Refusal}
+use Rattle.rules.specs.declared.Located.{Located}
 use Rattle.rules.specs.declared.Start.{Start as StartOf}
 use Rattle.rules.specs.declared.Offsets.{Offsets as OffsetsOf}
 use Rattle.rules.specs.declared.Dispatcher.{Dispatcher as State}
 use Rattle.rules.specs.declared.SetAnswer.the-variants as set-case
+use Rattle.rules.specs.declared.CheckAnswer.{CheckAnswer}
 use Rattle.rules.specs.declared.CheckAnswer.the-variants as check-case
+use Rattle.rules.specs.declared.MakeAnswer.{MakeAnswer}
 use Rattle.rules.specs.declared.MakeAnswer.the-variants as make-case
 use Rattle.rules.specs.declared.StartAnswer.{StartAnswer}
 use Rattle.rules.specs.declared.StartAnswer.the-variants as start-case
-use Rattle.rules.specs.Refusals.{gives, refusal, First, tells, start-tells}
+use Rattle.rules.specs.Refusals.{gives, refusal, First, tells, check-tells, make-tells, start-tells}
 use Rattle.rules.specs.Tasks.{Set, GoodSet, task, release, due, all-jobs, hyperperiod, figures, set-fault, memory-fault, memory-tests, judge-set, memory-set}
 use Rattle.rules.specs.Timetable.{ValidTimetable, entry-at, job-at}
 use Rattle.rules.specs.Setting.{Tables, instant}
@@ -33,6 +36,7 @@ use Rattle.rules.specs.Marks.{ID, PV, size}
 use Rattle.rules.specs.Image.{timetable-image, table-image, WritableTimetable, WritableTables}
 use Rattle.rules.specs.declared.Place.{Place}
 use Rattle.rules.specs.Framing.{frame-from, frame-records}
+use Rattle.rules.specs.Located.{located}
 use Rattle.rules.specs.Operations.{Timed, Tabled, read-timetable, read-tables, check-timetable, check-tables, derive, derive-output, rebuild, rebuild-output, derived-image, rebuilt-image, into}
 use Rattle.rules.specs.Offsets.{lent, idle-now, shown-delays, Standing, next-start-in, next-start}
 use Rattle.rules.specs.Dispatcher.{Shaped, stopped, is-stopped, refused, begin, go-on}
@@ -40,7 +44,7 @@ use Rattle.rules.specs.Calls.{Honest, Log, begun, all-starts, start-of}
 use Rattle.rules.specs.GoingOn.{DecidesAt, going-tests, start-refusal, Leaves}
 use Rattle.rules.specs.SlotsAbove.{SameAbove, SameBelow}
 use Rattle.rules.specs.StandingOffsets.{idles-since, inversions-since, OffsetsStand, StateOffsets}
-use Rattle.rules.specs.Promised.{HasTables, TimetableImage, TableImage, RefusesTimetableImage, RefusesTableImage, BothImages, RefusesDeriving, RefusesRebuilding}
+use Rattle.rules.specs.Promised.{HasTables, TimetableImage, TableImage, RefusesTimetableImage, RefusesTableImage, TheByte, BothImages, RefusesDeriving, RefusesRebuilding}
 use Rattle.rules.specs.Worked.{worked, worked-out, P2-bytes}
 use Rattle.rules.proofs.Cases.{by-option, clash}
 use Rattle.rules.proofs.GoodSets.{good-set, set-good, good-rules, memory-order}
@@ -57,6 +61,7 @@ use Rattle.rules.proofs.Demand2 as demand2
 use Rattle.rules.proofs.ImageOrder as order
 use Rattle.rules.proofs.MakingOrder as making
 use Rattle.rules.proofs.RefusalNumbers as numbers
+use Rattle.rules.proofs.RefusalPlaces as places
 use Rattle.rules.proofs.NextTurns.{enough-turns, lent-in-range}
 use Rattle.rules.proofs.PriorityLaws.{waits-later}
 use Rattle.rules.proofs.PossibleStates.{only-stopped, stopped-says}
@@ -203,12 +208,12 @@ module _ (bytes : List ℕ) (are-bytes : Bytes bytes) (ts : Set) (τ : List Entr
 
   -- an end before the start gives 21 and hands back the same state, so that the call can be made again
   pub too-early-refused : {k : ℕ} {s : StartOf} {d : State} → Log bytes ts k (start-case.Start s) d → k < all-starts τ → (end : ℕ) → end < s .time →
-      go-on bytes d end ≡ refused (refusal 21 0) d
+      go-on bytes d end ≡ refused (located bytes (refusal 21 0)) d
   too-early-refused = demand3.refuses-early bytes are-bytes ts τ (demand2.rebuilds accepted)
 
   -- after the last start of the last cycle an honest end gives 24 and hands back the same state, so that it is so however often
   pub after-the-last : {k : ℕ} {s : StartOf} {d : State} → Log bytes ts k (start-case.Start s) d → suc k ≡ all-starts τ → (end : ℕ) → Honest ts s end →
-      go-on bytes d end ≡ refused (refusal 24 0) d
+      go-on bytes d end ≡ refused (located bytes (refusal 24 0)) d
   after-the-last = demand3.after-the-last bytes are-bytes ts τ (demand2.rebuilds accepted)
 
   -- the offsets of each state stand where they should: of the ID to be used next and of each task's next PV, now and as at a cycle's start
@@ -266,47 +271,47 @@ set-refusals s r e =
 
 -- DEMAND 1, IMAGES: the refusal is the first in the document's order, by record and then by number, whose condition holds
 
-pub timetable-order : (bytes : List ℕ) (r : Refusal) → (check-timetable bytes ≡ check-case.Refused r) ↔ RefusesTimetableImage bytes r
-timetable-order bytes r = (order.timetable-refusals bytes r, order.refuses-timetable bytes)
+pub timetable-order : (bytes : List ℕ) (r : Refusal) → (check-timetable bytes ≡ check-case.Refused (located bytes r)) ↔ RefusesTimetableImage bytes r
+timetable-order bytes r = (order.timetable-refusals bytes (located bytes r), order.refuses-timetable bytes)
 
-pub table-order : (bytes : List ℕ) (r : Refusal) → (check-tables bytes ≡ check-case.Refused r) ↔ RefusesTableImage bytes r
-table-order bytes r = (order.table-refusals bytes r, order.refuses-tables bytes)
+pub table-order : (bytes : List ℕ) (r : Refusal) → (check-tables bytes ≡ check-case.Refused (located bytes r)) ↔ RefusesTableImage bytes r
+table-order bytes r = (order.table-refusals bytes (located bytes r), order.refuses-tables bytes)
 
 -- DEMAND 1, IMAGES: which numbers there are
 
-pub timetable-numbers : (bytes : List ℕ) (r : Refusal) → check-timetable bytes ≡ check-case.Refused r → (1 ≤ r .number) × (r .number ≤ 16)
+pub timetable-numbers : (bytes : List ℕ) (r : Located) → check-timetable bytes ≡ check-case.Refused r → (1 ≤ r .number) × (r .number ≤ 16)
 timetable-numbers = numbers.timetable-numbers
 
-pub table-numbers : (bytes : List ℕ) (r : Refusal) → check-tables bytes ≡ check-case.Refused r →
+pub table-numbers : (bytes : List ℕ) (r : Located) → check-tables bytes ≡ check-case.Refused r →
     ((1 ≤ r .number) × (r .number ≤ 10)) ⊎ ((17 ≤ r .number) × (r .number ≤ 19))
 table-numbers = numbers.table-numbers
 
 -- DEMAND 1, IMAGES: deriving refuses as checking does, or with 20 an image that is accepted; and then every byte of the output is as it was
 
-pub derive-refusals : (bytes old : List ℕ) (r : Refusal) → derive bytes old ≡ make-case.Refused r →
-    ((check-timetable bytes ≡ check-case.Refused r) ⊎ ((r ≡ refusal 20 0) × (check-timetable bytes ≡ check-case.Accepted))) × (derive-output bytes old ≡ old)
+pub derive-refusals : (bytes old : List ℕ) (r : Located) → derive bytes old ≡ make-case.Refused r →
+    ((check-timetable bytes ≡ check-case.Refused r) ⊎ ((r ≡ located bytes (refusal 20 0)) × (check-timetable bytes ≡ check-case.Accepted))) × (derive-output bytes old ≡ old)
 derive-refusals bytes old r e = (order.derive-refuses bytes old r e, order.derive-keeps bytes old r e)
 
 pub derive-too-long : {bytes : List ℕ} {ts : Set} {τ : List Entry} (old : List ℕ) → TimetableImage bytes ts τ →
-    (derive bytes old ≡ make-case.Refused (refusal 20 0)) ↔ (length old < length (table-image ts (tables ts τ)))
+    (derive bytes old ≡ make-case.Refused (located bytes (refusal 20 0))) ↔ (length old < length (table-image ts (tables ts τ)))
 derive-too-long = order.derive-too-long
 
 -- and rebuilding likewise
 
-pub rebuild-refusals : (bytes old : List ℕ) (r : Refusal) → rebuild bytes old ≡ make-case.Refused r →
-    ((check-tables bytes ≡ check-case.Refused r) ⊎ ((r ≡ refusal 20 0) × (check-tables bytes ≡ check-case.Accepted))) × (rebuild-output bytes old ≡ old)
+pub rebuild-refusals : (bytes old : List ℕ) (r : Located) → rebuild bytes old ≡ make-case.Refused r →
+    ((check-tables bytes ≡ check-case.Refused r) ⊎ ((r ≡ located bytes (refusal 20 0)) × (check-tables bytes ≡ check-case.Accepted))) × (rebuild-output bytes old ≡ old)
 rebuild-refusals bytes old r e = (order.rebuild-refuses bytes old r e, order.rebuild-keeps bytes old r e)
 
 pub rebuild-too-long : {bytes : List ℕ} {ts : Set} {τ : List Entry} (old : List ℕ) → TableImage bytes ts τ →
-    (rebuild bytes old ≡ make-case.Refused (refusal 20 0)) ↔ (length old < length (timetable-image ts τ))
+    (rebuild bytes old ≡ make-case.Refused (located bytes (refusal 20 0))) ↔ (length old < length (timetable-image ts τ))
 rebuild-too-long = order.rebuild-too-long
 
 -- DEMAND 1, IMAGES: so each refuses exactly with the first that the document's order comes to, and 20 is the last
 
-pub derive-order : (bytes old : List ℕ) → Bytes bytes → (r : Refusal) → (derive bytes old ≡ make-case.Refused r) ↔ RefusesDeriving bytes (length old) r
+pub derive-order : (bytes old : List ℕ) → Bytes bytes → (r : Refusal) → (derive bytes old ≡ make-case.Refused (located bytes r)) ↔ RefusesDeriving bytes (length old) r
 derive-order = making.derive-order
 
-pub rebuild-order : (bytes old : List ℕ) → Bytes bytes → (r : Refusal) → (rebuild bytes old ≡ make-case.Refused r) ↔ RefusesRebuilding bytes (length old) r
+pub rebuild-order : (bytes old : List ℕ) → Bytes bytes → (r : Refusal) → (rebuild bytes old ≡ make-case.Refused (located bytes r)) ↔ RefusesRebuilding bytes (length old) r
 rebuild-order = making.rebuild-order
 
 -- THE DECISION RULE: the next instant is the first with a job waiting, and what is worked out there is what the rule decides in the document's words
@@ -341,7 +346,7 @@ decision-rule-at-offsets bytes ts a t n c = rule.offsets-decide bytes ts a t (n 
 
 -- DEMAND 1, DISPATCHER: beginning refuses exactly as table checking does, and hands back the stopped state
 
-pub beginning-refuses : (bytes : List ℕ) (r : Refusal) → check-tables bytes ≡ check-case.Refused r → begin bytes ≡ refused r stopped
+pub beginning-refuses : (bytes : List ℕ) (r : Located) → check-tables bytes ≡ check-case.Refused r → begin bytes ≡ refused r stopped
 beginning-refuses = beginning.begin-refuses
 
 pub beginning-starts : (bytes : List ℕ) → Bytes bytes → check-tables bytes ≡ check-case.Accepted → (s : StartOf) × (begin bytes .answer ≡ start-case.Start s)
@@ -352,19 +357,44 @@ beginning-starts bytes b e =
       demand3.serves bytes b (w .0) (w .1) k (begun refl) (omega (arith, demand3.at-least-one bytes b (w .0) (w .1) k)),
     )
 
+-- R-2, THE BYTE: where the place that is told is a record of the image, that record begins at the offset that is told; else the offset is 0
+
+pub timetable-byte : (bytes : List ℕ) → Bytes bytes → (a : CheckAnswer) → check-timetable bytes ≡ a →
+    TheByte 1 bytes (check-tells a .number) (check-tells a .place) (check-tells a .offset)
+timetable-byte = places.timetable-tells
+
+pub tables-byte : (bytes : List ℕ) → Bytes bytes → (a : CheckAnswer) → check-tables bytes ≡ a →
+    TheByte 2 bytes (check-tells a .number) (check-tells a .place) (check-tells a .offset)
+tables-byte = places.tables-tell
+
+pub derive-byte : (bytes : List ℕ) → Bytes bytes → (old : List ℕ) (a : MakeAnswer) → derive bytes old ≡ a →
+    TheByte 1 bytes (make-tells a .number) (make-tells a .place) (make-tells a .offset)
+derive-byte = places.derive-tells
+
+pub rebuild-byte : (bytes : List ℕ) → Bytes bytes → (old : List ℕ) (a : MakeAnswer) → rebuild bytes old ≡ a →
+    TheByte 2 bytes (make-tells a .number) (make-tells a .place) (make-tells a .offset)
+rebuild-byte = places.rebuild-tells
+
+pub begin-byte : (bytes : List ℕ) → Bytes bytes →
+    TheByte 2 bytes (start-tells (begin bytes .answer) .number) (start-tells (begin bytes .answer) .place) (start-tells (begin bytes .answer) .offset)
+begin-byte bytes b =
+    beginning.by-check bytes
+    (λ r c. rw (beginning.begin-refuses bytes r c) (tables-byte bytes b (check-case.Refused r) c))
+    (λ c. let s = beginning-starts bytes b c in rw (s .1) (tables-byte bytes b check-case.Accepted c))
+
 -- DEMAND 1, DISPATCHER: going on refuses with the first of 23, 25, 21, 22, 24, 25 whose condition holds, and with nothing else
 
 pub going-on-order : (bytes : List ℕ) (s : State) (end : ℕ) → First (going-tests bytes s end) (start-refusal (go-on bytes s end .answer))
 going-on-order = going.going-order
 
--- DEMAND 1, DISPATCHER: the number is one of 21 to 25, the place 0, and the state is the one that the number leaves
+-- DEMAND 1, DISPATCHER: the number is one of 21 to 25, place and offset 0, and the state is the one that the number leaves
 
-pub going-on-leaves : (bytes : List ℕ) (s : State) (end : ℕ) (r : Refusal) → go-on bytes s end .answer ≡ start-case.Refused r →
-    (21 ≤ r .number) × (r .number ≤ 25) × (r .place ≡ 0) × Leaves s (r .number) (go-on bytes s end .state)
+pub going-on-leaves : (bytes : List ℕ) (s : State) (end : ℕ) (r : Located) → go-on bytes s end .answer ≡ start-case.Refused r →
+    (21 ≤ r .number) × (r .number ≤ 25) × (r .place ≡ 0) × (r .offset ≡ 0) × Leaves s (r .number) (go-on bytes s end .state)
 going-on-leaves bytes s end r e =
     let l = going.going-leaves bytes s end r e in
-    let n = going.going-numbers (l .1) in
-    (n .0, n .1, l .0, l .1)
+    let n = going.going-numbers (l .2) in
+    (n .0, n .1, l .0, l .1, l .2)
 
 -- only the stopped state tests as stopped
 

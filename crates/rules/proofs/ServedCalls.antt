@@ -13,6 +13,7 @@ use Rattle.rules.specs.declared.Turn.{Turn}
 use Rattle.rules.specs.Refusals.{refusal}
 use Rattle.rules.specs.Tasks.{Set, hyperperiod}
 use Rattle.rules.specs.Setting.{Tables}
+use Rattle.rules.specs.Located.{located}
 use Rattle.rules.specs.Dispatcher.{began, latest-end, refused, last-cycle, go-on, begin}
 use Rattle.rules.specs.Calls.{Honest, Log, begun, went-on, too-early, start-of}
 use Rattle.rules.proofs.Serving.{first-turn, Serves, At, Served, serves-first, serves-within, serves-next-cycle, refuses-early, refuses-after, began-at, latest-end-at}
@@ -33,7 +34,7 @@ module _ (bytes : List ℕ) (ts : Set) (X : Tables) (τ : List Entry) (g : Serve
     its-start = let e = v .answers in cc
 
     -- an end before it is refused
-    pub early-refused : end < s .time → go-on bytes d end ≡ refused (refusal 21 0) d
+    pub early-refused : end < s .time → go-on bytes d end ≡ refused (located bytes (refusal 21 0)) d
     early-refused l = refuses-early bytes ts X τ g c r d (v .at) an-entry end (rw (began-at bytes ts X τ g c r d (v .at) an-entry) (rw its-start at l))
 
     module _ (honest : Honest ts s end) where
@@ -54,7 +55,7 @@ module _ (bytes : List ℕ) (ts : Set) (X : Tables) (τ : List Entry) (g : Serve
       next-cycle last lc = served-to (serves-next-cycle bytes ts X τ g c r d (v .at) an-entry last end lc not-early not-late)
 
       -- after the last entry of the last cycle it refuses
-      pub last-refused : suc r ≡ length τ → last-cycle ≤ c → go-on bytes d end ≡ refused (refusal 24 0) d
+      pub last-refused : suc r ≡ length τ → last-cycle ≤ c → go-on bytes d end ≡ refused (located bytes (refusal 24 0)) d
       last-refused last lc = refuses-after bytes ts X τ g c r d (v .at) an-entry last end lc not-early not-late
 
   -- after k honest ends entry r of cycle c is served, for k = c · length + r

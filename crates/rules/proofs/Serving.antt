@@ -23,6 +23,7 @@ use Rattle.rules.specs.Decision.{replay-from, replay}
 use Rattle.rules.specs.Judging.{tables}
 use Rattle.rules.specs.Operations.{Tabled}
 use Rattle.rules.specs.Offsets.{Standing, standing, next-is, next-start, moved, lent, first-offsets}
+use Rattle.rules.specs.Located.{located}
 use Rattle.rules.specs.Dispatcher.{Shaped, zeros, zero-task, set-of, is-stopped, possible, began, latest-end, refused, started, start-next, last-cycle, after-running, at-cycle-start, next-turn, go-on, fresh, at-begin}
 use Rattle.rules.specs.Calls.{start-of}
 use Rattle.rules.specs.Image.{head-length}
@@ -239,7 +240,7 @@ module _ (bytes : List ℕ) (ts : Set) (X : Tables) (τ : List Entry) where
       going-at end lo hi = rw (not-stopped, possible-at, le-ltb end (began s) lo, le-ltb (latest-end s) end hi, go-on)
 
       -- an end before the running job's start is refused
-      pub refuses-early : (end : ℕ) → end < began s → go-on bytes s end ≡ refused (refusal 21 0) s
+      pub refuses-early : (end : ℕ) → end < began s → go-on bytes s end ≡ refused (located bytes (refusal 21 0)) s
       unfolding go-on
       refuses-early end l = rw (not-stopped, possible-at, lt-ltb end (began s) l, go-on)
 
@@ -283,5 +284,5 @@ module _ (bytes : List ℕ) (ts : Set) (X : Tables) (τ : List Entry) where
             record { state = v .state; answers = going-at end lo hi ∙ to-next-cycle lc ∙ v .answers; at = v .at }
 
         -- after the last cycle going on refuses
-        pub refuses-after : (end : ℕ) → last-cycle ≤ c → began s ≤ end → end ≤ latest-end s → go-on bytes s end ≡ refused (refusal 24 0) s
+        pub refuses-after : (end : ℕ) → last-cycle ≤ c → began s ≤ end → end ≤ latest-end s → go-on bytes s end ≡ refused (located bytes (refusal 24 0)) s
         refuses-after end lc lo hi = going-at end lo hi ∙ rw (done, le-ltb (s .cycle) last-cycle (omega (arith, a .cycle)), next-turn)

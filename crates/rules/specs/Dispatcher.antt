@@ -12,6 +12,7 @@ use Rattle.rules.specs.declared.Task.{Task}
 use Rattle.rules.specs.declared.TaskSet.{TaskSet}
 use Rattle.rules.specs.declared.Entry.{Entry}
 use Rattle.rules.specs.declared.Refusal.{Refusal}
+use Rattle.rules.specs.declared.Located.{Located}
 use Rattle.rules.specs.declared.StartAnswer.the-variants.{Start, Refused}
 use Rattle.rules.specs.declared.Offsets.{Offsets as OffsetsOf}
 use Rattle.rules.specs.declared.Dispatcher.{Dispatcher as State}
@@ -20,6 +21,7 @@ use Rattle.rules.specs.Refusals.{Judged, gives, refuses, refusal}
 use Rattle.rules.specs.Tasks.{Set, both, limits, largest-number, task, release, due, jobs, hyperperiod, memory-set, memory-fault}
 use Rattle.rules.specs.Priority.{slot, start-job, all-started, setting}
 use Rattle.rules.specs.Judging.{judge-tables}
+use Rattle.rules.specs.Located.{located}
 use Rattle.rules.specs.Operations.{Tabled, read-tables}
 use Rattle.rules.specs.Offsets.{Standing, NextStart, next-is, stuck, next-start, moved, lent, first-offsets}
 
@@ -149,7 +151,7 @@ began s = s .cycle * hyperperiod (set-of s) + s .running .start
 abbrev pub latest-end : State → ℕ
 latest-end s = began s + task (set-of s) (s .running .task) .time
 
-abbrev pub refused : Refusal → State → Turn
+abbrev pub refused : Located → State → Turn
 refused r s = record { answer = Refused r; state = s }
 
 -- the first n slots of one list, then the slots of another
@@ -170,7 +172,7 @@ started bytes s c a (next-is i t o) = record {
     first = s .first;
   };
 }
-started bytes s c a (stuck number) = refused (refusal 25 0) stopped
+started bytes s c a (stuck number) = refused (located bytes (refusal 25 0)) stopped
 
 -- the next start from there
 abbrev pub start-next : List ℕ → State → ℕ → Standing (List ℕ) → Turn
@@ -204,7 +206,7 @@ next-turn bytes s =
     elim (all-started (hyperperiod (set-of s)) (set-of s .tasks) (s .next)) [
       | true ↦ elim (ltb (s .cycle) last-cycle) [
         | true ↦ start-next bytes s (suc (s .cycle)) (at-cycle-start s)
-        | false ↦ refused (refusal 24 0) s
+        | false ↦ refused (located bytes (refusal 24 0)) s
       ]
       | false ↦ start-next bytes s (s .cycle) (after-running s)
     ]
@@ -213,13 +215,13 @@ next-turn bytes s =
 unfoldable pub go-on : List ℕ → State → ℕ → Turn
 go-on bytes s end =
     elim (is-stopped s) [
-      | true ↦ refused (refusal 23 0) s
+      | true ↦ refused (located bytes (refusal 23 0)) s
       | false ↦ elim (possible s) [
-        | false ↦ refused (refusal 25 0) stopped
+        | false ↦ refused (located bytes (refusal 25 0)) stopped
         | true ↦ elim (ltb end (began s)) [
-          | true ↦ refused (refusal 21 0) s
+          | true ↦ refused (located bytes (refusal 21 0)) s
           | false ↦ elim (ltb (latest-end s) end) [
-            | true ↦ refused (refusal 22 0) stopped
+            | true ↦ refused (located bytes (refusal 22 0)) stopped
             | false ↦ next-turn bytes s
           ]
         ]
@@ -248,11 +250,11 @@ at-begin s = record { next = s .next; free = 0; offsets = s .now .inversions; id
 -- beginning runs full acceptance and answers the first start; a refused beginning hands back the stopped state
 abbrev pub begin-accepted : List ℕ → Tabled → Judged (List Entry) → Turn
 begin-accepted bytes i (gives τ) = start-next bytes (fresh i) 0 (at-begin (fresh i))
-begin-accepted bytes i (refuses r) = refused r stopped
+begin-accepted bytes i (refuses r) = refused (located bytes r) stopped
 
 abbrev pub begin-framed : List ℕ → Judged Tabled → Turn
 begin-framed bytes (gives i) = begin-accepted bytes i (judge-tables (i .set) (i .tables))
-begin-framed bytes (refuses r) = refused r stopped
+begin-framed bytes (refuses r) = refused (located bytes r) stopped
 
 unfoldable pub begin : List ℕ → Turn
 begin bytes = begin-framed bytes (read-tables bytes)

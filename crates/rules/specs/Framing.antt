@@ -15,7 +15,7 @@ use Rattle.rules.specs.Refusals.{Judged, gives, refuses, refusal, or-els
 use Rattle.rules.specs.Tasks.{Set, both, few-enough, limits}
 use Rattle.rules.specs.Setting.{Tables}
 use Rattle.rules.specs.Priority.{slot}
-use Rattle.rules.specs.Marks.{Mark, TS, TK, SL, ID, PV, Class, head-class, task-class, option-class, listed-class, inversion-class, end-class, Row, row, marks, size, head-count-of, head-length-of, mark-in, values}
+use Rattle.rules.specs.Marks.{Mark, TS, TK, SL, ID, PV, Class, head-class, task-class, option-class, listed-class, inversion-class, end-class, Row, row, size, head-count-of, head-length-of, front-mark, values}
 use Rattle.rules.specs.Image.{to-task, to-entry, to-idle, to-inversion}
 
 -- before the first record
@@ -39,7 +39,7 @@ if-allowed kind s (some m) = elim (allowed kind s m) [ true ↦ some m | false �
 
 -- the mark at the front of bytes, if it is allowed there
 abbrev pub mark-at : ℕ → Place → List ℕ → Option Mark
-mark-at kind s bytes = if-allowed kind s (mark-in marks (getD bytes 0 0) (getD bytes 1 0))
+mark-at kind s bytes = if-allowed kind s (front-mark bytes)
 
 -- the tests of a record of the class head, 3, 4 and 5, and of the class end, 10
 abbrev pub head-fault : ℕ → ℕ → List ℕ → Option Refusal

@@ -16,6 +16,7 @@ use Rattle.rules.specs.Tasks.{Set, limits, task, release, due, jobs, hyp
 use Rattle.rules.specs.Priority.{slot}
 use Rattle.rules.specs.Decision.{Choice, idle-for, start-task}
 use Rattle.rules.specs.DecisionRule.{NextInstant, Decides, TooLate}
+use Rattle.rules.specs.Located.{bare}
 use Rattle.rules.specs.Offsets.{unreadable, shows, Source, Standing, lent}
 use Rattle.rules.specs.Dispatcher.{numbers, stopped, set-of, began, latest-end, last-cycle, after-running, at-cycle-start}
 
@@ -86,7 +87,7 @@ going-tests bytes s end =
 -- the refusal of a start answer, if it is one
 abbrev pub start-refusal : StartAnswer → Option Refusal
 start-refusal (Start s) = none
-start-refusal (Refused r) = some r
+start-refusal (Refused r) = some (bare r)
 
 -- the state that each refusal of going on leaves
 pub data Leaves (s : State) : ℕ → State → Type 0 where

@@ -11,6 +11,7 @@ pub mod Order
 pub mod Marks
 pub mod Image
 pub mod Framing
+pub mod Located
 pub mod Operations
 pub mod Offsets
 pub mod Dispatcher

@@ -4,7 +4,7 @@ use mathlib.Core.List.{List, [], _∷_}
 use mathlib.Core.Option.{Option, none, some}
 use Prim.Native.Nat.{ℕ, suc, _+_, _*_}
 use lib.Dec.{eqb}
-use lib.ListN.{length, drop}
+use lib.ListN.{length, getD, drop}
 use Rattle.fields.specs.Body.{total, values-in}
 use Rattle.rules.specs.Tasks.{both}
 
@@ -75,6 +75,10 @@ head-length-of n = size TS + n * size TK
 abbrev pub mark-in : List Mark → ℕ → ℕ → Option Mark
 mark-in [] a b = none
 mark-in (m ∷ ms) a b = elim (both (eqb a (row m .byte₁)) (eqb b (row m .byte₂))) [ true ↦ some m | false ↦ mark-in ms a b ]
+
+-- the mark at the front of bytes, if one stands there
+abbrev pub front-mark : List ℕ → Option Mark
+front-mark bytes = mark-in marks (getD bytes 0 0) (getD bytes 1 0)
 
 -- the values of the record at the front of bytes, read from the part that begins after the mark
 abbrev pub values : Mark → List ℕ → List ℕ

@@ -16,6 +16,7 @@ use Rattle.rules.specs.Setting.{Tables}
 use Rattle.rules.specs.Judging.{judge-timetable, judge-tables}
 use Rattle.rules.specs.Image.{timetable-image, table-image}
 use Rattle.rules.specs.Framing.{frame, set-in, entries-in, tables-in}
+use Rattle.rules.specs.Located.{located}
 
 -- what a timetable image holds, and what a table image holds
 pub record Timed : Type 0 where
@@ -45,16 +46,16 @@ derived bytes = then (read-timetable bytes) derive-from
 abbrev pub rebuilt : List ℕ → Judged Timed
 rebuilt bytes = then (read-tables bytes) rebuild-from
 
--- plain checking has no output
-abbrev pub check-answer : {A : Type 0} → Judged A → CheckAnswer
-check-answer (gives a) = check-case.Accepted
-check-answer (refuses r) = check-case.Refused r
+-- plain checking has no output; the refusal of an image is located in its bytes
+abbrev pub check-answer : {A : Type 0} → List ℕ → Judged A → CheckAnswer
+check-answer bytes (gives a) = check-case.Accepted
+check-answer bytes (refuses r) = check-case.Refused (located bytes r)
 
 unfoldable pub check-timetable : List ℕ → CheckAnswer
-check-timetable bytes = check-answer (derived bytes)
+check-timetable bytes = check-answer bytes (derived bytes)
 
 unfoldable pub check-tables : List ℕ → CheckAnswer
-check-tables bytes = check-answer (rebuilt bytes)
+check-tables bytes = check-answer bytes (rebuilt bytes)
 
 -- a result into an output of so many bytes: last, 20
 abbrev pub into : ℕ → List ℕ → Judged (List ℕ)
@@ -74,22 +75,22 @@ abbrev pub rebuilt-image : ℕ → List ℕ → Judged (List ℕ)
 rebuilt-image room bytes = then (rebuilt bytes) (write-timetable room)
 
 -- the answer is the result's length; the result fills the front of the output, and later bytes, and all bytes on a refusal, keep their values
-abbrev pub make-answer : Judged (List ℕ) → MakeAnswer
-make-answer (gives result) = make-case.Made (length result)
-make-answer (refuses r) = make-case.Refused r
+abbrev pub make-answer : List ℕ → Judged (List ℕ) → MakeAnswer
+make-answer bytes (gives result) = make-case.Made (length result)
+make-answer bytes (refuses r) = make-case.Refused (located bytes r)
 
 abbrev pub output-after : Judged (List ℕ) → List ℕ → List ℕ
 output-after (gives result) old = result ++ drop (length result) old
 output-after (refuses r) old = old
 
 unfoldable pub derive : List ℕ → List ℕ → MakeAnswer
-derive bytes old = make-answer (derived-image (length old) bytes)
+derive bytes old = make-answer bytes (derived-image (length old) bytes)
 
 unfoldable pub derive-output : List ℕ → List ℕ → List ℕ
 derive-output bytes old = output-after (derived-image (length old) bytes) old
 
 unfoldable pub rebuild : List ℕ → List ℕ → MakeAnswer
-rebuild bytes old = make-answer (rebuilt-image (length old) bytes)
+rebuild bytes old = make-answer bytes (rebuilt-image (length old) bytes)
 
 unfoldable pub rebuild-output : List ℕ → List ℕ → List ℕ
 rebuild-output bytes old = output-after (rebuilt-image (length old) bytes) old

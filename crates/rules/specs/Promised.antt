@@ -2,6 +2,7 @@
 -- refuses an image, and what refuses to make one of the other. Assumes nothing.
 use mathlib.Core.Path.{_≡_}
 use mathlib.Core.Logic.{_↔_}
+use mathlib.Core.Bool.{true, false}
 use mathlib.Core.List.{List, _++_, List·Memᴰ}
 use mathlib.Core.Option.{some}
 use Prim.Native.Nat.{ℕ, _<_}
@@ -15,8 +16,9 @@ use Rattle.rules.specs.Timetable.{ValidTimetable}
 use Rattle.rules.specs.Setting.{Tables}
 use Rattle.rules.specs.Irregularities.{ForcedIdles, IsInversion}
 use Rattle.rules.specs.Order.{PairRises, timetable-tests, RefusesTables}
-use Rattle.rules.specs.Image.{timetable-image, table-image}
+use Rattle.rules.specs.Image.{Record, timetable-records, table-records, timetable-image, table-image}
 use Rattle.rules.specs.Framing.{RefusesFraming, start-place}
+use Rattle.rules.specs.Located.{names-record, Begins, BeginsIn}
 use Rattle.rules.specs.Operations.{Timed, Tabled, read-timetable, read-tables}
 
 -- the tables of a timetable: its forced idles in the order of entries; its inversions and no others, with pairs strictly rising
@@ -51,6 +53,18 @@ pub data RefusesTimetableImage (bytes : List ℕ) : Refusal → Type 1 where
 pub data RefusesTableImage (bytes : List ℕ) : Refusal → Type 1 where
   by-framing : {r : Refusal} → RefusesFraming 2 start-place bytes r → RefusesTableImage bytes r
   by-its-tables : {r : Refusal} {i : Tabled} → read-tables bytes ≡ gives i → RefusesTables (i .set) (i .tables) r → RefusesTableImage bytes r
+
+-- the records of an image of a kind, where it frames
+pub data RecordsOf (bytes : List ℕ) : ℕ → List Record → Type 0 where
+  of-timetable : {i : Timed} → read-timetable bytes ≡ gives i → RecordsOf bytes 1 (timetable-records (i .set) (i .entries))
+  of-tables : {i : Tabled} → read-tables bytes ≡ gives i → RecordsOf bytes 2 (table-records (i .set) (i .tables))
+
+-- the byte that a refusal of an image of a kind tells: where its place is a record, that record begins there, behind the records before it, and, where the
+-- image frames, behind their bytes in what is written; else 0
+pub record TheByte (kind : ℕ) (bytes : List ℕ) (number place offset : ℕ) : Type 0 where
+  pub begins : names-record number ≡ true → Begins bytes place offset
+  pub in-what-is-written : names-record number ≡ true → (rs : List Record) → RecordsOf bytes kind rs → BeginsIn rs bytes place offset
+  pub none-named : names-record number ≡ false → offset ≡ 0
 
 -- the images of both kinds of one timetable: its own, and that of its tables
 pub record BothImages (timetable-bytes table-bytes : List ℕ) : Type 0 where

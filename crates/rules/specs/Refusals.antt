@@ -5,6 +5,7 @@ use mathlib.Core.List.{List, [], _∷_, _++_}
 use mathlib.Core.Option.{Option, none, some}
 use Prim.Native.Nat.{ℕ, zero, suc}
 use Rattle.rules.specs.declared.Refusal.{Refusal}
+use Rattle.rules.specs.declared.Located.{Located}
 use Rattle.rules.specs.declared.SetAnswer.{SetAnswer}
 use Rattle.rules.specs.declared.SetAnswer.the-variants as set-case
 use Rattle.rules.specs.declared.CheckAnswer.{CheckAnswer}
@@ -67,22 +68,27 @@ pub data First : List Test → Option Refusal → Type 1 where
   holds : {t : Test} {ts : List Test} → t .refuses-when → First (t ∷ ts) (some (t .with-refusal))
   passes : {t : Test} {ts : List Test} {o : Option Refusal} → (t .refuses-when → ⊥) → First ts o → First (t ∷ ts) o
 
--- what an answer tells: the refusal's number, 0 where there is none; its place; and the values
+-- what an answer tells: the refusal's number, 0 where there is none; its place; its byte offset; and the values
 pub record Told : Type 0 where
   pub number : ℕ
   pub place : ℕ
+  pub offset : ℕ
   pub values : List ℕ
 
 abbrev pub tells : List ℕ → Told
-tells values = record { number = 0; place = 0; values = values }
+tells values = record { number = 0; place = 0; offset = 0; values = values }
 
-abbrev pub tells-refusal : Refusal → Told
-tells-refusal r = record { number = r .number; place = r .place; values = [] }
+abbrev pub tells-refusal : Located → Told
+tells-refusal r = record { number = r .number; place = r .place; offset = r .offset; values = [] }
+
+-- a set in memory has no bytes
+abbrev pub of-no-image : Refusal → Located
+of-no-image r = record { number = r .number; place = r .place; offset = 0 }
 
 -- judging a set tells the hyperperiod and the number of jobs
 abbrev pub set-tells : SetAnswer → Told
 set-tells (set-case.Good f) = tells (f .hyperperiod ∷ f .jobs ∷ [])
-set-tells (set-case.Refused r) = tells-refusal r
+set-tells (set-case.Refused r) = tells-refusal (of-no-image r)
 
 -- plain checking has no values
 abbrev pub check-tells : CheckAnswer → Told

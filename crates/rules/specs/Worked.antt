@@ -1,13 +1,12 @@
--- The worked cases: document 01, "A set to work by hand", and document 000's figure 1. P1 to P12 and the figure in a single table. Assumes nothing.
+-- The worked cases: document 01, "A set to work by hand", with the byte offsets of document 02, R-2, and document 000's figure 1, in a single table. Assumes nothing.
 use mathlib.Core.List.{List, [], _∷_}
 use Prim.Native.Nat.{ℕ}
-use lib.ListN.{length}
+use lib.ListN.{length, take}
 use Rattle.rules.specs.declared.Layout.{Layout}
 use Rattle.rules.specs.declared.Task.{Task}
 use Rattle.rules.specs.declared.Entry.{Entry}
 use Rattle.rules.specs.declared.Idle.{Idle}
 use Rattle.rules.specs.declared.Inversion.{Inversion}
-use Rattle.rules.specs.declared.Refusal.{Refusal}
 use Rattle.rules.specs.declared.Figures.{Figures}
 use Rattle.rules.specs.Refusals.{Judged, gives, refuses, Told, tells, make-tells}
 use Rattle.rules.specs.Tasks.{Set, set-with, figures}
@@ -94,8 +93,10 @@ pub record Case : Type 0 where
 abbrev makes : Asked → List ℕ → Figures → Case
 makes asked result set = record { asked = asked; answer = tells (length result ∷ []); result = result; set = set }
 
-abbrev refuses-with : Asked → Refusal → Figures → Case
-refuses-with asked r set = record { asked = asked; answer = record { number = r .number; place = r .place; values = [] }; result = []; set = set }
+-- with its number, its place and its byte offset
+abbrev refuses-with : Asked → ℕ → ℕ → ℕ → Figures → Case
+refuses-with asked number place offset set =
+    record { asked = asked; answer = record { number = number; place = place; offset = offset; values = [] }; result = []; set = set }
 
 -- the figures of the set to work by hand, and of no set
 abbrev hand-figures : Figures
@@ -116,34 +117,41 @@ worked =
     ∷ makes (to-derive (timetable-image hand P2)) P2-bytes hand-figures
     ∷ makes (to-rebuild P2-bytes) (timetable-image hand P2) hand-figures
     -- P3, P4: job 1 of task 0 at 10 and at 8
-    ∷ refuses-with (to-derive (timetable-image hand (P2-with 10))) (record { number = 15; place = 7 }) hand-figures
-    ∷ refuses-with (to-derive (timetable-image hand (P2-with 8))) (record { number = 14; place = 7 }) hand-figures
+    ∷ refuses-with (to-derive (timetable-image hand (P2-with 10))) 15 7 80 hand-figures
+    ∷ refuses-with (to-derive (timetable-image hand (P2-with 8))) 14 7 80 hand-figures
     -- P5: idle (10,5); P6: idle split into (10,1) and (11,1)
-    ∷ refuses-with (to-rebuild (table-image hand (P2-idles (ID 10 5 ∷ [])))) (record { number = 18; place = 4 }) hand-figures
-    ∷ refuses-with (to-rebuild (table-image hand (P2-idles (ID 10 1 ∷ ID 11 1 ∷ [])))) (record { number = 17; place = 5 }) hand-figures
+    ∷ refuses-with (to-rebuild (table-image hand (P2-idles (ID 10 5 ∷ [])))) 18 4 0 hand-figures
+    ∷ refuses-with (to-rebuild (table-image hand (P2-idles (ID 10 1 ∷ ID 11 1 ∷ [])))) 17 5 67 hand-figures
     -- P7: P1's tables with PV (2,0,3); P8: with ID (16,2)
-    ∷ refuses-with (to-rebuild (table-image hand (tables-with [] (PV 2 0 3 ∷ [])))) (record { number = 19; place = 4 }) hand-figures
-    ∷ refuses-with (to-rebuild (table-image hand (tables-with (ID 16 2 ∷ []) []))) (record { number = 19; place = 4 }) hand-figures
+    ∷ refuses-with (to-rebuild (table-image hand (tables-with [] (PV 2 0 3 ∷ [])))) 19 4 59 hand-figures
+    ∷ refuses-with (to-rebuild (table-image hand (tables-with (ID 16 2 ∷ []) []))) 19 4 59 hand-figures
     -- P9: one task and one entry
     ∷ makes (to-derive (timetable-image one-task (SL 0 0 ∷ []))) (without-records one-task) (record { hyperperiod = 1; jobs = 1 })
     ∷ makes (to-rebuild (without-records one-task)) (timetable-image one-task (SL 0 0 ∷ [])) (record { hyperperiod = 1; jobs = 1 })
     -- P10: periods 3 and 65,535; 2 and 65,535
-    ∷ refuses-with (to-rebuild (without-records (set-with (TK 0 1 3 3 ∷ TK 0 1 65535 65535 ∷ [])))) (record { number = 9; place = 0 })
+    ∷ refuses-with (to-rebuild (without-records (set-with (TK 0 1 3 3 ∷ TK 0 1 65535 65535 ∷ [])))) 9 0 0
     (record { hyperperiod = 65535; jobs = 21846 })
-    ∷ refuses-with (to-rebuild (without-records (set-with (TK 0 1 2 2 ∷ TK 0 1 65535 65535 ∷ [])))) (record { number = 8; place = 0 })
+    ∷ refuses-with (to-rebuild (without-records (set-with (TK 0 1 2 2 ∷ TK 0 1 65535 65535 ∷ [])))) 8 0 0
     (record { hyperperiod = 131070; jobs = 65537 })
     -- P11: periods 16 and 65,520, which pass as a set: what is missing is an entry; a third task of 65,520
-    ∷ refuses-with (to-derive (timetable-image (set-with (TK 0 1 16 16 ∷ TK 0 1 65520 65520 ∷ [])) [])) (record { number = 16; place = 0 })
+    ∷ refuses-with (to-derive (timetable-image (set-with (TK 0 1 16 16 ∷ TK 0 1 65520 65520 ∷ [])) [])) 16 0 0
     (record { hyperperiod = 65520; jobs = 4096 })
-    ∷ refuses-with (to-derive (timetable-image (set-with (TK 0 1 16 16 ∷ TK 0 1 65520 65520 ∷ TK 0 1 65520 65520 ∷ [])) [])) (record { number = 9; place = 0 })
+    ∷ refuses-with (to-derive (timetable-image (set-with (TK 0 1 16 16 ∷ TK 0 1 65520 65520 ∷ TK 0 1 65520 65520 ∷ [])) [])) 9 0 0
     (record { hyperperiod = 65520; jobs = 4097 })
+    -- P2 without EN, as document 02 has it: where EN would start
+    ∷ refuses-with (to-rebuild (take 85 P2-bytes)) 1 7 85 no-figures
     -- P12: no bytes
-    ∷ refuses-with (to-derive []) (record { number = 1; place = 0 }) no-figures
-    ∷ refuses-with (to-rebuild []) (record { number = 1; place = 0 }) no-figures
+    ∷ refuses-with (to-derive []) 1 0 0 no-figures
+    ∷ refuses-with (to-rebuild []) 1 0 0 no-figures
     -- document 000's figure 1
     ∷ makes (to-derive (timetable-image figure-1 figure-1-starts)) (table-image figure-1 figure-1-tables) (record { hyperperiod = 60; jobs = 12 })
     ∷ makes (to-rebuild (table-image figure-1 figure-1-tables)) (timetable-image figure-1 figure-1-starts) (record { hyperperiod = 60; jobs = 12 })
     ∷ []
+
+-- the image
+abbrev image-in : Asked → List ℕ
+image-in (to-derive bytes) = bytes
+image-in (to-rebuild bytes) = bytes
 
 -- what the rule book answers, with room enough for any result
 abbrev made : Asked → Judged (List ℕ)
@@ -166,7 +174,7 @@ figures-of (to-rebuild bytes) = figures-in bytes (frame 2 bytes)
 abbrev pub worked-out : Case → Case
 worked-out c = record {
   asked = c .asked;
-  answer = make-tells (make-answer (made (c .asked)));
+  answer = make-tells (make-answer (image-in (c .asked)) (made (c .asked)));
   result = bytes-of (made (c .asked));
   set = figures-of (c .asked);
 }

@@ -52,11 +52,32 @@ pub struct Inversion {
     pub delay: u32,
 }
 
-// The refusal that every operation gives: its number and its place.
+// A refusal: its number and its place.
 pub struct Refusal {
     pub number: u32,
     pub place: usize,
 }
+
+// The refusal of an image, located in its bytes: its number, its place, and the byte offset of the record that the place names, 0 where it names none.
+pub struct Located {
+    pub number: u32,
+    pub place: usize,
+    pub offset: usize,
+}
+
+// Number 0 stands for no refusal.
+pub const NO_REFUSAL: Located = Located {
+    number: 0,
+    place: 0,
+    offset: 0,
+};
+
+// A result or an input that is too long: it names no record.
+pub const TOO_LONG: Located = Located {
+    number: 20,
+    place: 0,
+    offset: 0,
+};
 
 // Where framing stands before a record: the record's index and byte offset, the least rank that it may have, TK records still due, and how many TK, SL or
 // ID, and PV records there are so far.
@@ -93,13 +114,13 @@ pub enum SetAnswer {
 // Plain checking of an image.
 pub enum CheckAnswer {
     Accepted,
-    Refused(Refusal),
+    Refused(Located),
 }
 
 // Deriving and rebuilding: the length of what now fills the front of the output.
 pub enum MakeAnswer {
     Made(usize),
-    Refused(Refusal),
+    Refused(Located),
 }
 
 // A job that starts now: its cycle and absolute time.
@@ -113,7 +134,7 @@ pub struct Start {
 // Beginning and going on.
 pub enum StartAnswer {
     Start(Start),
-    Refused(Refusal),
+    Refused(Located),
 }
 
 // Byte offsets into the image: of the ID to be used next and, for each task, of its next PV.

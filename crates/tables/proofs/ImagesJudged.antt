@@ -1,10 +1,10 @@
 -- A table image judged: by framing, then by its set, then by its records, then by replay and comparison. Assumes nothing.
-use mathlib.Core.Path.{_≡_, refl, sym, _∙_, ap, ap₂}
+use mathlib.Core.Path.{_≡_, refl, sym, _∙_, ap, ap₂, subst}
 use mathlib.Core.Logic.{⊎-elim}
 use mathlib.Core.Bool.{true}
 use mathlib.Core.List.{List, _++_}
 use mathlib.Core.Option.{none, some}
-use Prim.Native.Nat.{ℕ, _+_, _-_, _≤_}
+use Prim.Native.Nat.{ℕ, _+_, _*_, _-_, _≤_}
 use native.Mathlib.Omega.{arith}
 use lib.ListN.{length, replicate}
 use borrow.Author.Tests.{le-leb}
@@ -13,14 +13,17 @@ use Rattle.rules.specs.declared.TaskSet.{TaskSet}
 use Rattle.rules.specs.declared.Layout.{Layout}
 use Rattle.rules.specs.declared.Offsets.{Offsets as OffsetsOf}
 use Rattle.rules.specs.declared.Refusal.{Refusal}
+use Rattle.rules.specs.declared.Located.{Located}
 use Rattle.rules.specs.declared.SetAnswer.the-variants as set-case
 use Rattle.rules.specs.declared.CheckAnswer.the-variants as check-case
 use Rattle.rules.specs.Refusals.{Judged, gives, refuses, refusal, refusal-in}
 use Rattle.rules.specs.Tasks.{Set, limits, hyperperiod, few-enough, set-fault, judge-set, memory-set}
 use Rattle.rules.specs.Setting.{Tables}
 use Rattle.rules.specs.Judging.{records-fault, judge-tables}
-use Rattle.rules.specs.Marks.{EN, size, head-length-of}
+use Rattle.rules.specs.Marks.{ID, PV, EN, size, head-length-of}
+use Rattle.rules.specs.Image.{head-count, head-length, table-image}
 use Rattle.rules.specs.Framing.{frame, set-in, tables-in}
+use Rattle.rules.specs.Located.{offset-of, located, bare, no-refusal}
 use Rattle.rules.specs.Offsets.{first-offsets}
 use Rattle.rules.specs.Operations.{read-tables, rebuilt, check-answer, check-tables}
 use Rattle.rules.specs.Dispatcher.{zero-task}
@@ -28,6 +31,8 @@ use Rattle.rules.proofs.Cases.{by-judged, clash, both-in}
 use Rattle.rules.proofs.GoodSets.{set-good}
 use Rattle.rules.proofs.Images.{records-before, framed-tables, table-image-length}
 use Rattle.rules.proofs.RefusalNumbers.{table-numbers}
+use Rattle.rules.proofs.RefusalPlaces.{set-place}
+use Rattle.rules.proofs.RecordOffsets.{idles-begin, inversions-begin}
 use Rattle.rules.proofs.ShownAt.{Stand}
 use Rattle.rules.proofs.StandingTables.{read-stand}
 use Rattle.rules.proofs.Arrays.{memory-many}
@@ -38,10 +43,10 @@ use Rattle.sets.proofs.Faults.{told-none, told-fault}
 use Rattle.sets.proofs.Answers.{refused-fault}
 use Rattle.framing.specs.declared.FrameAnswer.{FrameAnswer}
 use Rattle.framing.specs.declared.FrameAnswer.the-variants as frame-case
-use Rattle.framing.specs.SetRead.{set-read}
+use Rattle.framing.specs.SetRead.{set-read, set-located}
 use Rattle.framing.specs.Frames.{frame-answer}
 use Rattle.framing.proofs.Promises.{refused-is}
-use Rattle.framing.proofs.SetLaws.{set-tasks-many, set-slots-many}
+use Rattle.framing.proofs.SetLaws.{set-tasks-many, set-slots-many, set-located-there}
 use Rattle.framing.proofs.RoomLaws.{framed-room, framed-set, tasks-framed}
 use Rattle.records.specs.Tables.{inversions-offset, end-offset, tables-at, HasOffsets}
 use Rattle.records.specs.Told.{CanJudge, RecordsTold}
@@ -52,19 +57,21 @@ use Rattle.tables.specs.Replayed.{RefusalTold, CanCompare}
 use Rattle.tables.specs.Judged.{SetStands, refused-with, JudgedAs}
 
 -- what refuses an image has a number
-numbered : (bytes : List ℕ) (r : Refusal) → rebuilt bytes ≡ refuses r → r .number ≡ 0 → ⊥
+numbered : (bytes : List ℕ) (r : Located) → rebuilt bytes ≡ refuses (bare r) → r .number ≡ 0 → ⊥
 unfolding check-tables
-numbered bytes r e z = ⊎-elim (λ w. omega (arith, w)) (λ w. omega (arith, w)) (table-numbers bytes r (ap check-answer e))
+numbered bytes r e z = ⊎-elim (λ w. omega (arith, w)) (λ w. omega (arith, w)) (table-numbers bytes (located bytes (bare r)) (ap (check-answer bytes) e))
 
 -- so a refusal is told by its number
-judged-refused : (bytes : List ℕ) {kept : Rows} (t : Judgement) (r : Refusal) → rebuilt bytes ≡ refuses r → t ≡ refused-with r → JudgedAs bytes t kept
-judged-refused bytes t r e is = rw is record { refused = λ _. (e, refl); good = λ z. absurd (numbered bytes r e z) }
+judged-refused : (bytes : List ℕ) {kept : Rows} (t : Judgement) (r : Located) → rebuilt bytes ≡ refuses (bare r) → r ≡ located bytes (bare r) →
+    t ≡ refused-with r → JudgedAs bytes t kept
+judged-refused bytes t r e there is =
+    rw is record { refused = λ _. (record { judged = e; there = there }, refl); good = λ z. absurd (numbered bytes r e z) }
 
 -- framing refuses
-pub judged-by-framing : (bytes : List ℕ) {kept : Rows} (t : Judgement) (a : FrameAnswer) → a ≡ frame-answer (frame 2 bytes) → (r : Refusal) →
+pub judged-by-framing : (bytes : List ℕ) {kept : Rows} (t : Judgement) (a : FrameAnswer) → a ≡ frame-answer bytes (frame 2 bytes) → (r : Located) →
     a ≡ frame-case.Refused r → t ≡ refused-with r → JudgedAs bytes t kept
 judged-by-framing bytes t a e r is t-is =
-    let f : frame 2 bytes ≡ refuses r = refused-is (frame 2 bytes) r (sym is ∙ e) in judged-refused bytes t r (rw f) t-is
+    let f = refused-is bytes (frame 2 bytes) r (sym is ∙ e) in judged-refused bytes t r (rw (f .judged)) (f .there) t-is
 
 -- a refusal told is the image's, and none told is none
 refusal-is : {A : Type 0} (z : Judged A) (r : Refusal) → refusal-in z ≡ some r → z ≡ refuses r
@@ -116,13 +123,20 @@ module _ (bytes : List ℕ) {l : Layout} {s : TaskSet} (b : Bytes bytes) (framed
       ))
 
   -- a fault of the set refuses it
-  pub judged-by-set : {kept : Rows} (t : Judgement) (r : Refusal) → set-case.Refused r ≡ judge-set s → t ≡ refused-with r → JudgedAs bytes t kept
-  judged-by-set t r e t-is =
+  fault-of-set : (r : Refusal) → set-case.Refused r ≡ judge-set s → (set-fault (memory-set s) ≡ some r) × (set-located r ≡ located bytes r)
+  fault-of-set r e =
       let w = framed-tables bytes b (record { set = memory-set s; tables = its-tables bytes s l }) read-so in
       let some-tasks : 1 ≤ s .n = omega (arith, w .0 .some-tasks, its-tasks-many) in
       let counted : few-enough (s .n) ≡ true = both-in _ _ (le-leb 1 (s .n) some-tasks) (le-leb (s .n) (limits .tasks) few) in
       let fault : set-fault (memory-set s) ≡ some r = rw counted at (refused-fault s r e) in
-      judged-refused bytes t r (rw (read-so, fault)) t-is
+      (fault, set-located-there 2 bytes (memory-set s) _ (w .1) r fault)
+
+  pub judged-by-set : {kept : Rows} (t : Judgement) (r : Refusal) → set-case.Refused r ≡ judge-set s → t ≡ refused-with (set-located r) → JudgedAs bytes t kept
+  judged-by-set t r e t-is = let f = fault-of-set r e in judged-refused bytes t (set-located r) (rw (read-so, f .0)) (f .1) t-is
+
+  -- at one of its records
+  pub set-fault-place : (r : Refusal) → set-case.Refused r ≡ judge-set s → r .place ≤ 16
+  set-fault-place r e = omega (arith, set-place (memory-set s) r (fault-of-set r e .0) .0, its-tasks-many, few)
 
   -- behind its tasks its slots are zero
   pub its-zero-slots : s .tasks ≡ memory-set s .tasks ++ replicate (limits .tasks - s .n) zero-task
@@ -156,22 +170,36 @@ module _ {bytes : List ℕ} {s : TaskSet} {kept : Rows} {l : Layout} (b : Bytes 
 
   -- its records can be judged
   pub can-judge : CanJudge bytes kept (l .listed) (l .inversions)
-  can-judge = record { set = memory-set s; keeps = keeps; stand = rw n-is (omega (arith, long bytes b (st .framed) (st .set-is))) }
+  can-judge =
+      let is : bytes ≡ table-image (memory-set s) X =
+      framed-tables bytes b (record { set = memory-set s; tables = X }) (read-so bytes b (st .framed) (st .set-is)) .1 in
+      let listed : length (X .idles) ≡ l .listed = idles-length bytes (head-length-of (s .n)) (l .listed) in
+      let inverted : length (X .inversions) ≡ l .inversions = inversions-length bytes (inversions-offset (s .n) (l .listed)) (l .inversions) in
+      record {
+        set = memory-set s;
+        keeps = keeps;
+        stand = rw n-is (omega (arith, long bytes b (st .framed) (st .set-is)));
+        idles-begin = λ j h. rw (keeps .n-tasks) (idles-begin bytes (memory-set s) X is j (omega (arith, listed)));
+        inversions-begin = λ j h.
+            rw (keeps .n-tasks)
+            (subst (λ (k : ℕ). offset-of (head-count (memory-set s) + k + j) bytes ≡ head-length (memory-set s) + k * size ID + j * size PV) listed
+            (inversions-begin bytes (memory-set s) X is j (omega (arith, inverted))));
+      }
 
-  module _ (r : Refusal) (told : RecordsTold bytes kept (l .listed) (l .inversions) r) where
+  module _ (r : Located) (told : RecordsTold bytes kept (l .listed) (l .inversions) r) where
     -- the first fault of its records is told
-    first-fault : FirstFault (records-fault (memory-set s) (hyperperiod (memory-set s)) X) r
+    first-fault : FirstFault (records-fault (memory-set s) (hyperperiod (memory-set s)) X) (bare r)
     first-fault = rw (cycle-is, n-is) at (told .first (memory-set s) keeps)
 
     -- a record that breaks its rule refuses it
     pub judged-by-records : (r .number ≡ 0 → ⊥) → (t : Judgement) → t ≡ refused-with r → JudgedAs bytes t kept
     judged-by-records z t t-is =
-        judged-refused bytes t r (rw (read-so bytes b (st .framed) (st .set-is), no-fault, told-fault _ r first-fault z)) t-is
+        judged-refused bytes t r (rw (read-so bytes b (st .framed) (st .set-is), no-fault, told-fault _ (bare r) first-fault z)) (told .there) t-is
 
     module _ (none-broken : r .number ≡ 0) where
       -- no record breaks its rule
       records-good : records-fault (memory-set s) (hyperperiod (memory-set s)) X ≡ none
-      records-good = told-none _ r first-fault none-broken
+      records-good = told-none _ (bare r) first-fault none-broken
 
       -- the offsets as at a cycle's start can be told
       pub has-offsets : HasOffsets bytes (s .n) (l .listed) (l .inversions)
@@ -206,23 +234,24 @@ module _ {bytes : List ℕ} {s : TaskSet} {kept : Rows} {l : Layout} (b : Bytes 
           idle-records = sym (idles-length bytes (head-length-of (s .n)) (l .listed));
         }
 
-        module _ (q : Refusal) (replayed : RefusalTold (rebuilt bytes) q) where
+        module _ (q : Located) (replayed : RefusalTold bytes (rebuilt bytes) q) where
           -- a late job or a difference refuses it
           pub judged-by-replay : (q .number ≡ 0 → ⊥) → (t : Judgement) → t ≡ refused-with q → JudgedAs bytes t kept
           judged-by-replay z t t-is =
-              judged-refused bytes t q (refusal-is (rebuilt bytes) q (told-fault (refusal-in (rebuilt bytes)) q (replayed .first) z)) t-is
+              judged-refused bytes t q (refusal-is (rebuilt bytes) (bare q) (told-fault (refusal-in (rebuilt bytes)) (bare q) (replayed .first) z)) (replayed .there)
+              t-is
 
           -- or it is accepted
           pub judged-good : q .number ≡ 0 → JudgedAs bytes (record { refusal = q; set = s; first = first }) kept
           judged-good z =
               let read = read-so bytes b (st .framed) (st .set-is) in
-              let no-refusal : q ≡ refusal 0 0 = ap₂ refusal z (replayed .no-place z) in
-              let none-told : refusal-in (rebuilt bytes) ≡ none = told-none (refusal-in (rebuilt bytes)) q (replayed .first) z in
+              let not-refused : q ≡ no-refusal = replayed .there ∙ ap₂ (λ (number place : ℕ). located bytes (refusal number place)) z (replayed .no-place z) in
+              let none-told : refusal-in (rebuilt bytes) ≡ none = told-none (refusal-in (rebuilt bytes)) (bare q) (replayed .first) z in
               by-judged (judge-tables (memory-set s) X)
               (λ τ e. record {
                 refused = λ n. absurd (n z);
                 good = λ _. record {
-                  no-refusal = no-refusal;
+                  not-refused = not-refused;
                   tables = X;
                   entries = τ;
                   few = few bytes b (st .framed) (st .set-is);
@@ -240,7 +269,7 @@ module _ {bytes : List ℕ} {s : TaskSet} {kept : Rows} {l : Layout} (b : Bytes 
 module _ (bytes : List ℕ) (t : Judgement) {kept : Rows} (j : JudgedAs bytes t kept) where
   pub refusal-answered : (t .refusal .number ≡ 0 → ⊥) → check-case.Refused (t .refusal) ≡ check-tables bytes
   unfolding check-tables
-  refusal-answered z = sym (ap check-answer (j .refused z .0))
+  refusal-answered z = let r = j .refused z .0 in ap check-case.Refused (r .there) ∙ sym (ap (check-answer bytes) (r .judged))
 
   pub acceptance-answered : t .refusal .number ≡ 0 → check-case.Accepted ≡ check-tables bytes
   unfolding check-tables

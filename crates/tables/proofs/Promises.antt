@@ -13,11 +13,13 @@ use Rattle.rules.specs.declared.CheckAnswer.{CheckAnswer}
 use Rattle.rules.specs.declared.CheckAnswer.the-variants.{Accepted, Refused}
 use Rattle.rules.specs.Refusals.{gives, refuses}
 use Rattle.rules.specs.Tasks.{Set, limits, memory-set}
+use Rattle.rules.specs.Located.{located, bare}
 use Rattle.rules.specs.Offsets.{first-offsets}
 use Rattle.rules.specs.Operations.{Timed, Tabled, rebuilt, check-tables}
 use Rattle.rules.specs.Dispatcher.{zero-task}
 use Rattle.rules.specs.Promised.{TableImage, RefusesTableImage}
 use Rattle.rules.proofs.Cases.{by-nat, clash, gives-in}
+use Rattle.rules.proofs.Locations.{one-refused}
 use Rattle.rules.proofs.Demand2.{rebuilds}
 use Rattle.rules.proofs.Promises as book
 use Rattle.sets.specs.Kept.{Rows}
@@ -36,7 +38,8 @@ accepted-exactly bytes b r e =
     (λ a. exactly .0 (sym e ∙ a), λ w. e ∙ exactly .1 w)
 
 -- it is a refusal exactly where that is the first that the document's order comes to
-pub refused-exactly : (bytes : List ℕ) (r : CheckAnswer) → r ≡ check-tables bytes → (q : Refusal) → (r ≡ Refused q) ↔ RefusesTableImage bytes q
+pub refused-exactly : (bytes : List ℕ) (r : CheckAnswer) → r ≡ check-tables bytes → (q : Refusal) →
+    (r ≡ Refused (located bytes q)) ↔ RefusesTableImage bytes q
 refused-exactly bytes r e q =
     let exactly = book.table-order bytes q in
     (λ a. exactly .0 (sym e ∙ a), λ w. e ∙ exactly .1 w)
@@ -69,7 +72,7 @@ module _ {bytes : List ℕ} {t u : Judgement} {kept others : Rows} (g : Good byt
   -- and its first offsets
   good-same : t ≡ u
   good-same =
-      let r : t .refusal ≡ u .refusal = g .no-refusal ∙ sym (k .no-refusal) in
+      let r : t .refusal ≡ u .refusal = g .not-refused ∙ sym (k .not-refused) in
       let offsets : t .first ≡ u .first =
       g .offsets ∙ ap (λ (x : Tabled). first-offsets (x .set) (x .tables)) same-held ∙ sym (k .offsets) in
       λ i. record { refusal = r i; set = same-set i; first = offsets i }
@@ -83,14 +86,13 @@ pub one-judgement : (bytes : List ℕ) (t u : Judgement) (kept others : Rows) �
 one-judgement bytes t u kept others a b =
     by-nat (t .refusal .number)
     (λ y. by-nat (u .refusal .number) (λ z. good-same (a .good y) (b .good z))
-    (λ m z. absurd (good-not-refused (a .good y) (u .refusal) (b .refused (λ q. omega (arith, q, z)) .0))))
+    (λ m z. absurd (good-not-refused (a .good y) (bare (u .refusal)) (b .refused (λ q. omega (arith, q, z)) .0 .judged))))
     (λ l y. by-nat (u .refusal .number)
-    (λ z. absurd (good-not-refused (b .good z) (t .refusal) (a .refused (λ q. omega (arith, q, y)) .0)))
+    (λ z. absurd (good-not-refused (b .good z) (bare (t .refusal)) (a .refused (λ q. omega (arith, q, y)) .0 .judged)))
     (λ m z.
     let v = a .refused (λ q. omega (arith, q, y)) in
     let w = b .refused (λ q. omega (arith, q, z)) in
-    let same : t .refusal ≡ u .refusal = (let both = sym (v .0) ∙ w .0 in cc) in
-    v .1 ∙ ap refused-with same ∙ sym (w .1)))
+    v .1 ∙ ap refused-with (one-refused (v .0) (w .0)) ∙ sym (w .1)))
 
 -- the timetable behind an accepted image is the only one that has its tables
 pub only-timetable : {bytes : List ℕ} {t : Judgement} {kept : Rows} (g : Good bytes t kept) {us : Set} {σ : List Entry} → TableImage bytes us σ →

@@ -16,9 +16,12 @@ use Rattle.rules.specs.Judging.{judge-tables}
 use Rattle.rules.specs.Marks.{ID, PV, size, head-count-of}
 use Rattle.rules.specs.Offsets.{last-offset}
 use Rattle.rules.specs.Operations.{rebuilt}
-use Rattle.rules.specs.Image.{head-count, head-length}
+use Rattle.rules.specs.Located.{located, no-refusal}
+use Rattle.rules.specs.Image.{head-count, head-length, table-image}
 use Rattle.rules.proofs.Cases.{by-eq, by-le, clash}
-use Rattle.rules.proofs.Images.{records-before}
+use Rattle.rules.proofs.Images.{records-before, framed-tables}
+use Rattle.rules.proofs.Locations.{run-located}
+use Rattle.rules.proofs.RecordOffsets.{idles-begin, inversions-begin}
 use Rattle.rules.proofs.ShownAt.{Stand}
 use Rattle.rules.proofs.OffsetReplay.{first-inversion-offset}
 use Rattle.rules.proofs.WastedRecords.{judged-unused, judged-wasted, judged-accepted}
@@ -55,19 +58,25 @@ module _ {ts : Set} {bytes : List ℕ} {kept : Rows} {idles : ℕ} {first : Offs
   image-told = rw (given .can .read) (refusal-through (judge-tables ts X) (λ (τ : List Entry). record { set = ts; entries = τ }))
 
   -- a refusal of the tables is told
-  refused-so : (number place : ℕ) → judge-tables ts X ≡ refuses (refusal (suc number) place) →
-      RefusalTold (rebuilt bytes) (refusal (suc number) place)
+  refused-so : (number place offset : ℕ) → judge-tables ts X ≡ refuses (refusal (suc number) place) →
+      record { number = suc number; place = place; offset = offset } ≡ located bytes (refusal (suc number) place) →
+      RefusalTold bytes (rebuilt bytes) (record { number = suc number; place = place; offset = offset })
   unfolding FirstFault
-  refused-so number place e = record { first = sym (image-told ∙ ap refusal-in e); no-place = λ z. clash (cc) }
+  refused-so number place offset e there = record { first = sym (image-told ∙ ap refusal-in e); no-place = λ z. clash (cc); there = there }
 
   -- and that there is none
-  accepted-so : (τ : List Entry) → judge-tables ts X ≡ gives τ → RefusalTold (rebuilt bytes) (refusal 0 0)
+  accepted-so : (τ : List Entry) → judge-tables ts X ≡ gives τ → RefusalTold bytes (rebuilt bytes) no-refusal
   unfolding FirstFault
-  accepted-so τ e = record { first = sym (image-told ∙ ap refusal-in e); no-place = λ z. refl }
+  accepted-so τ e = record { first = sym (image-told ∙ ap refusal-in e); no-place = λ z. refl; there = refl }
 
   -- the cycle is stuck: 18 at the number of starts
-  pub replay-at-late : (number : ℕ) → run .last ≡ Stuck number → RefusalTold (rebuilt bytes) (refusal 18 (length (run .entries)))
-  replay-at-late number e = refused-so 17 (length (run .entries)) (cycle-stuck are-bytes (given .can) number e)
+  pub replay-at-late : (number : ℕ) → run .last ≡ Stuck number →
+      RefusalTold bytes (rebuilt bytes) (record { number = 18; place = length (run .entries); offset = 0 })
+  replay-at-late number e = refused-so 17 (length (run .entries)) 0 (cycle-stuck are-bytes (given .can) number e) refl
+
+  -- its bytes are those of the set and the tables
+  is-image : bytes ≡ table-image ts X
+  is-image = framed-tables bytes are-bytes (record { set = ts; tables = X }) (given .can .read) .1
 
   -- the tables stand in the image
   stand : Stand bytes ts X (records-before ts X)
@@ -99,7 +108,7 @@ module _ {ts : Set} {bytes : List ℕ} {kept : Rows} {idles : ℕ} {first : Offs
     }
 
     -- and 19, or nothing, is told of them
-    pub replay-at-done : RefusalTold (rebuilt bytes) (unused-at (head-count-of (tasks-in kept)) idles (first .idle) (f .idle) (run .wasted))
+    pub replay-at-done : RefusalTold bytes (rebuilt bytes) (unused-at (head-count-of (tasks-in kept)) idles (first .idle) (f .idle) (run .wasted))
     unfolding unused-at
     replay-at-done =
         let good = given .can .good in
@@ -125,9 +134,14 @@ module _ {ts : Set} {bytes : List ℕ} {kept : Rows} {idles : ℕ} {first : Offs
           given .can .keeps .n-tasks,
           given .idle-records,
         ) in
-        rw (lt-ltb wasted last-offset low, place) (refused-so 18 (head-count ts + length (X .idles) + q) judged))))
+        rw (lt-ltb wasted last-offset low, place)
+        (refused-so 18 (head-count ts + length (X .idles) + q) wasted judged
+        (run-located bytes 19 refl (head-count ts + length (X .idles)) (first-inversion-offset ts X) PV (length (X .inversions))
+        (inversions-begin bytes ts X is-image) q (omega (arith, bound)) _ wasted refl there)))))
         (λ unused.
         let (q, bound, there, judged) = judged-unused stand good R K W all (omega (arith, inversions-behind)) in
         let place : head-count-of (tasks-in kept) + (idle - first .idle) / size ID ≡ head-count ts + q =
         omega (arith, quotient idle (first .idle) q (size ID) (omega arith) (omega (arith, first-idle, there)), given .can .keeps .n-tasks) in
-        rw (lt-ltb idle behind unused, place) (refused-so 18 (head-count ts + q) judged))
+        rw (lt-ltb idle behind unused, place)
+        (refused-so 18 (head-count ts + q) idle judged
+        (run-located bytes 19 refl (head-count ts) (head-length ts) ID (length (X .idles)) (idles-begin bytes ts X is-image) q (omega (arith, bound)) _ idle refl there)))

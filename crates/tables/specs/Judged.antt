@@ -6,12 +6,13 @@ use lib.ListN.{length, replicate}
 use Rattle.rules.specs.declared.TaskSet.{TaskSet}
 use Rattle.rules.specs.declared.Entry.{Entry}
 use Rattle.rules.specs.declared.Layout.{Layout}
-use Rattle.rules.specs.declared.Refusal.{Refusal}
-use Rattle.rules.specs.Refusals.{gives, refuses, refusal}
+use Rattle.rules.specs.declared.Located.{Located}
+use Rattle.rules.specs.Refusals.{gives}
 use Rattle.rules.specs.Tasks.{limits, memory-set}
 use Rattle.rules.specs.Setting.{Tables}
 use Rattle.rules.specs.Judging.{judge-tables}
 use Rattle.rules.specs.Framing.{frame}
+use Rattle.rules.specs.Located.{no-refusal, RefusedAt}
 use Rattle.rules.specs.Offsets.{first-offsets}
 use Rattle.rules.specs.Operations.{read-tables, rebuilt}
 use Rattle.rules.specs.Dispatcher.{zero-task, zero-set, zero-offsets}
@@ -26,12 +27,12 @@ pub record SetStands (bytes : List ℕ) (s : TaskSet) (kept : Rows) (l : Layout)
   pub keeps : Keeps (memory-set s) kept
 
 -- beside a refusal all is zero
-abbrev pub refused-with : Refusal → Judgement
+abbrev pub refused-with : Located → Judgement
 refused-with r = record { refusal = r; set = zero-set; first = zero-offsets }
 
 -- an accepted image: its set, with zero slots behind the tasks, what is kept of it, its tables and the timetable behind them, and its first offsets
 pub record Good (bytes : List ℕ) (t : Judgement) (kept : Rows) : Type 0 where
-  pub no-refusal : t .refusal ≡ refusal 0 0
+  pub not-refused : t .refusal ≡ no-refusal
   pub tables : Tables
   pub entries : List Entry
   pub few : t .set .n ≤ limits .tasks
@@ -44,5 +45,5 @@ pub record Good (bytes : List ℕ) (t : Judgement) (kept : Rows) : Type 0 where
 
 -- number 0 stands for no refusal
 pub record JudgedAs (bytes : List ℕ) (t : Judgement) (kept : Rows) : Type 0 where
-  pub refused : (t .refusal .number ≡ 0 → ⊥) → (rebuilt bytes ≡ refuses (t .refusal)) × (t ≡ refused-with (t .refusal))
+  pub refused : (t .refusal .number ≡ 0 → ⊥) → RefusedAt bytes (rebuilt bytes) (t .refusal) × (t ≡ refused-with (t .refusal))
   pub good : t .refusal .number ≡ 0 → Good bytes t kept

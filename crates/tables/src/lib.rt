@@ -6,9 +6,10 @@ use images::IDLE_SIZE;
 use images::INVERSION_SIZE;
 use rules::CheckAnswer;
 use rules::Layout;
+use rules::Located;
+use rules::NO_REFUSAL;
 use rules::NO_SET;
 use rules::Offsets;
-use rules::Refusal;
 use rules::SetAnswer;
 use rules::TaskSet;
 use sets::FIGURES;
@@ -21,43 +22,43 @@ ghost use Rattle.tables.specs.Judged.{SetStands, refused-with, JudgedAs}
 
 // 19 at the first ID record that is left, else at the first PV record that had no effect, with so many records before them all. Number 0 where there is
 // none.
-fn unused(before: usize, idles: usize, first: u32, idle: u32, wasted: u32) -> Refusal
+fn unused(before: usize, idles: usize, first: u32, idle: u32, wasted: u32) -> Located
     requires { ⌜ Ended before idles first idle wasted ⌝ }
     ensures { λ r. ⌜ r ≡ unused-at before idles first idle wasted ⌝ }
 {
     let from = first as usize;
     let inversions = from + idles * IDLE_SIZE;
     if (idle as usize) < inversions {
-        return Refusal {
+        return Located {
             number: 19,
             place: before + (idle as usize - from) / IDLE_SIZE,
+            offset: idle as usize,
         };
     }
     if wasted < LAST_OFFSET {
-        return Refusal {
+        return Located {
             number: 19,
             place: before + idles + (wasted as usize - inversions) / INVERSION_SIZE,
+            offset: wasted as usize,
         };
     }
-    Refusal {
-        number: 0,
-        place: 0,
-    }
+    NO_REFUSAL
 }
 
 // Replay through one cycle, refused with 18 at a start that would be late; then 19. Number 0 where nothing is wrong.
-fn replay_fault(image: &[u8], kept: &[[u32; 16]; 6], idles: usize, first: Offsets) -> Refusal
+fn replay_fault(image: &[u8], kept: &[[u32; 16]; 6], idles: usize, first: Offsets) -> Located
     requires { ⌜ ((ts : Set) × CanCompare ts (now image) (now kept) idles first) ⌝ }
-    ensures { λ r. ⌜ RefusalTold (rebuilt (now (image .entry))) r ⌝ }
+    ensures { λ r. ⌜ RefusalTold (now (image .entry)) (rebuilt (now (image .entry))) r ⌝ }
 {
     let before = images::head_count(kept[FIGURES][TASKS] as usize);
     let mut nowhere = [0u8; 0];
     let run = replay::cycle(image, kept, first, &mut nowhere);
     let last = run.last;
     match last {
-        NextStart::Stuck(_) => Refusal {
+        NextStart::Stuck(_) => Located {
             number: 18,
             place: run.made,
+            offset: 0,
         },
         NextStart::Starts(f) => unused(before, idles, first.idle, f.idle, run.wasted),
     }
@@ -65,13 +66,13 @@ fn replay_fault(image: &[u8], kept: &[[u32; 16]; 6], idles: usize, first: Offset
 
 // What a table image comes to: a refusal, with number 0 for none; and the set and the offsets as at a cycle's start, all zero where the image is refused.
 pub struct Tables {
-    pub refusal: Refusal,
+    pub refusal: Located,
     pub set: TaskSet,
     pub first: Offsets,
 }
 
 // A refusal, with nothing beside it.
-fn refused(refusal: Refusal) -> Tables
+fn refused(refusal: Located) -> Tables
     ensures { λ t. ⌜ t ≡ refused-with refusal ⌝ }
 {
     let set = NO_SET;
@@ -118,7 +119,7 @@ pub fn judge(image: &[u8], kept: &mut [[u32; 16]; 6]) -> Tables
         FrameAnswer::Framed(l) => {
             let set = framing::read_set(image, l.tasks);
             match sets::judge_set(set, kept) {
-                SetAnswer::Refused(refusal) => refused(refusal),
+                SetAnswer::Refused(fault) => refused(framing::set_refused(fault)),
                 SetAnswer::Good(_) => judge_records(image, set, kept, l),
             }
         }

@@ -12,27 +12,33 @@ use Rattle.rules.specs.declared.TaskSet.{TaskSet}
 use Rattle.rules.specs.declared.Layout.{Layout}
 use Rattle.rules.specs.declared.Place.{Place}
 use Rattle.rules.specs.declared.Refusal.{Refusal}
+use Rattle.rules.specs.declared.Located.{Located}
 use Rattle.rules.specs.declared.SetAnswer.the-variants as set-case
 use Rattle.rules.specs.declared.CheckAnswer.the-variants as check-case
 use Rattle.rules.specs.Refusals.{gives, refuses, refusal}
 use Rattle.rules.specs.Tasks.{Set, few-enough, set-fault, judge-set, memory-set}
 use Rattle.rules.specs.Marks.{SL, size, head-count-of, head-length-of}
-use Rattle.rules.specs.Image.{head-count, head-length}
+use Rattle.rules.specs.Image.{head-count, head-length, timetable-image}
+use Rattle.rules.specs.Located.{located, bare, no-refusal}
 use Rattle.rules.specs.Framing.{frame, set-in, entries-in}
 use Rattle.rules.specs.Operations.{read-timetable, derived, check-answer, check-timetable}
 use Rattle.rules.proofs.Arrays.{memory-many}
 use Rattle.rules.proofs.Cases.{by-eq, by-le, both-in}
 use Rattle.rules.proofs.GoodSets.{set-good}
+use Rattle.rules.proofs.Images.{framed-timetable}
+use Rattle.rules.proofs.Locations.{run-located}
 use Rattle.rules.proofs.RefusalNumbers.{timetable-numbers}
+use Rattle.rules.proofs.RefusalPlaces.{set-place}
+use Rattle.rules.proofs.RecordOffsets.{entries-begin}
 use Rattle.sets.specs.Kept.{Rows, hyperperiod-in, Keeps}
 use Rattle.sets.proofs.Answers.{refused-fault}
 use Rattle.framing.specs.declared.FrameAnswer.{FrameAnswer}
 use Rattle.framing.specs.declared.FrameAnswer.the-variants as frame-case
 use Rattle.framing.specs.declared.TasksAnswer.{TasksAnswer}
 use Rattle.framing.specs.declared.TasksAnswer.the-variants as tasks-case
-use Rattle.framing.specs.SetRead.{set-read}
+use Rattle.framing.specs.SetRead.{set-read, set-located}
 use Rattle.framing.specs.Frames.{TasksFramed, Reached, RunOf, BehindTasks, behind-run, frame-answer}
-use Rattle.framing.proofs.SetLaws.{set-tasks-many, set-slots-many}
+use Rattle.framing.proofs.SetLaws.{set-tasks-many, set-slots-many, set-located-there}
 use Rattle.framing.proofs.RoomLaws.{tasks-framed}
 use Rattle.framing.proofs.Runs.{none-run}
 use Rattle.framing.proofs.Promises.{framed-is, refused-is}
@@ -40,24 +46,26 @@ use Rattle.timetables.specs.declared.Timetable.{Timetable}
 use Rattle.timetables.specs.declared.Walk.{Walk}
 use Rattle.timetables.specs.Entries.{entries-at}
 use Rattle.timetables.specs.Judged.{entries-behind, fault-behind, EntriesStand, Walked, refused-with, told-of, JudgedAs}
-use Rattle.timetables.proofs.EntriesRead.{entries-framed}
+use Rattle.timetables.proofs.EntriesRead.{entries-framed, entries-length}
 use Rattle.timetables.proofs.PlacesReached.{reached, framed-tasks, all-listed, more-listed}
 
 -- what refuses an image has a number
-numbered : (bytes : List ℕ) (r : Refusal) → derived bytes ≡ refuses r → r .number ≡ 0 → ⊥
+numbered : (bytes : List ℕ) (r : Located) → derived bytes ≡ refuses (bare r) → r .number ≡ 0 → ⊥
 unfolding check-timetable
-numbered bytes r e z = omega (arith, timetable-numbers bytes r (ap check-answer e) .0)
+numbered bytes r e z = omega (arith, timetable-numbers bytes (located bytes (bare r)) (ap (check-answer bytes) e) .0)
 
 -- so a refusal is told by its number
-judged-refused : {bytes : List ℕ} {count : Bool} {kept : Rows} {t : Timetable} (r : Refusal) → derived bytes ≡ refuses r → t ≡ refused-with r →
-    JudgedAs bytes count t kept
-judged-refused {bytes} r e is = rw is record { refused = λ _. (e, refl); good = λ z. absurd (numbered bytes r e z) }
+judged-refused : {bytes : List ℕ} {count : Bool} {kept : Rows} {t : Timetable} (r : Located) → derived bytes ≡ refuses (bare r) → r ≡ located bytes (bare r) →
+    t ≡ refused-with r → JudgedAs bytes count t kept
+judged-refused {bytes} r e there is =
+    rw is record { refused = λ _. (record { judged = e; there = there }, refl); good = λ z. absurd (numbered bytes r e z) }
 
 -- framing refuses the tasks
-pub judged-by-tasks : {bytes : List ℕ} {count : Bool} {kept : Rows} {t : Timetable} (a : TasksAnswer) → TasksFramed 1 bytes a → (r : Refusal) →
+pub judged-by-tasks : {bytes : List ℕ} {count : Bool} {kept : Rows} {t : Timetable} (a : TasksAnswer) → TasksFramed 1 bytes a → (r : Located) →
     a ≡ tasks-case.Refused r → t ≡ refused-with r → JudgedAs bytes count t kept
 unfolding TasksFramed
-judged-by-tasks {bytes} a framed r e is = let f : frame 1 bytes ≡ refuses r = (rw e at framed) .0 in judged-refused r (rw f) is
+judged-by-tasks {bytes} a framed r e is =
+    let f : TasksFramed 1 bytes (tasks-case.Refused r) = rw e at framed in judged-refused r (rw (f .0 .judged)) (f .0 .there) is
 
 -- or comes to the place behind them
 pub behind-tasks : {bytes : List ℕ} (a : TasksAnswer) → TasksFramed 1 bytes a → (p : Place) → a ≡ tasks-case.Framed p →
@@ -66,10 +74,10 @@ unfolding TasksFramed
 behind-tasks a framed p e = rw e at framed
 
 -- framing refuses a later record
-pub judged-by-framing : {bytes : List ℕ} {count : Bool} {kept : Rows} {t : Timetable} (a : FrameAnswer) → a ≡ frame-answer (frame 1 bytes) → (r : Refusal) →
+pub judged-by-framing : {bytes : List ℕ} {count : Bool} {kept : Rows} {t : Timetable} (a : FrameAnswer) → a ≡ frame-answer bytes (frame 1 bytes) → (r : Located) →
     a ≡ frame-case.Refused r → t ≡ refused-with r → JudgedAs bytes count t kept
 judged-by-framing {bytes} a e r is t-is =
-    let f : frame 1 bytes ≡ refuses r = refused-is (frame 1 bytes) r (sym is ∙ e) in judged-refused r (rw f) t-is
+    let f = refused-is bytes (frame 1 bytes) r (sym is ∙ e) in judged-refused r (rw (f .judged)) (f .there) t-is
 
 -- the tasks before the place behind them stand in the image
 pub tasks-inside : {bytes : List ℕ} {p : Place} → Reached 1 bytes p → BehindTasks bytes p → (p .tasks ≤ 16) × (head-length-of (p .tasks) ≤ length bytes)
@@ -115,16 +123,28 @@ module _ {bytes : List ℕ} (b : Bytes bytes) {p : Place} (re : Reached 1 bytes 
         ap (λ (n : ℕ). entries-at bytes (head-length-of n) (l .listed)) n-is ∙ entries-framed bytes l b framed in
         rw (its-entries, framed, its-tasks)
 
+    -- so its bytes are those of the set and the entries
+    image-is : bytes ≡ timetable-image ts (entries-behind bytes ts (l .listed))
+    image-is = framed-timetable bytes b (record { set = ts; entries = entries-behind bytes ts (l .listed) }) read-so .1
+
   -- the set is refused
-  pub judged-by-set : {count : Bool} {kept : Rows} {t : Timetable} (r : Refusal) → set-case.Refused r ≡ judge-set s → (l : Layout) (a : FrameAnswer) →
-      a ≡ frame-answer (frame 1 bytes) → a ≡ frame-case.Framed l → t ≡ refused-with r → JudgedAs bytes count t kept
-  judged-by-set r e l a a-is framed t-is =
-      let f = framed-is (frame 1 bytes) l (sym framed ∙ a-is) in
-      let same = framed-tasks re behind (none-run bytes (p .offset) SL 0 (re .placed .inside) .1) l f in
+  fault-of-set : (r : Refusal) → set-case.Refused r ≡ judge-set s → set-fault ts ≡ some r
+  fault-of-set r e =
       let few : few-enough (s .n) ≡ true =
       both-in _ _ (le-leb 1 (s .n) (omega (arith, many, behind .some))) (le-leb (s .n) 16 (omega (arith, many, behind .few))) in
-      let fault : set-fault ts ≡ some r = rw few at (refused-fault s r e) in
-      judged-refused r (rw (read-so l f same, fault)) t-is
+      rw few at (refused-fault s r e)
+
+  pub judged-by-set : {count : Bool} {kept : Rows} {t : Timetable} (r : Refusal) → set-case.Refused r ≡ judge-set s → (l : Layout) (a : FrameAnswer) →
+      a ≡ frame-answer bytes (frame 1 bytes) → a ≡ frame-case.Framed l → t ≡ refused-with (set-located r) → JudgedAs bytes count t kept
+  judged-by-set r e l a a-is framed t-is =
+      let f = framed-is bytes (frame 1 bytes) l (sym framed ∙ a-is) in
+      let same = framed-tasks re behind (none-run bytes (p .offset) SL 0 (re .placed .inside) .1) l f in
+      let fault = fault-of-set r e in
+      judged-refused (set-located r) (rw (read-so l f same, fault)) (set-located-there 1 bytes ts _ (image-is l f same) r fault) t-is
+
+  -- at one of its records
+  pub set-fault-place : (r : Refusal) → set-case.Refused r ≡ judge-set s → r .place ≤ 16
+  set-fault-place r e = omega (arith, set-place ts r (fault-of-set r e) .0, its-tasks-many, many, behind .few)
 
   -- or good, and its entries are walked over
   module _ {count : Bool} {w : Walk} (walked : Walked ts bytes count w) where
@@ -141,10 +161,10 @@ module _ {bytes : List ℕ} (b : Bytes bytes) {p : Place} (re : Reached 1 bytes 
     walk-reached = reached re behind run
 
     -- and on to the end of the image
-    module _ {kept : Rows} (keeps : Keeps ts kept) (l : Layout) (a : FrameAnswer) (a-is : a ≡ frame-answer (frame 1 bytes)) (framed : a ≡ frame-case.Framed l) where
+    module _ {kept : Rows} (keeps : Keeps ts kept) (l : Layout) (a : FrameAnswer) (a-is : a ≡ frame-answer bytes (frame 1 bytes)) (framed : a ≡ frame-case.Framed l) where
       -- the image is framed
       frames : frame 1 bytes ≡ gives l
-      frames = framed-is (frame 1 bytes) l (sym framed ∙ a-is)
+      frames = framed-is bytes (frame 1 bytes) l (sym framed ∙ a-is)
 
       -- and read as the set and these entries
       reads : read-timetable bytes ≡ gives (record { set = ts; entries = entries-behind bytes ts (l .listed) })
@@ -155,15 +175,20 @@ module _ {bytes : List ℕ} (b : Bytes bytes) {p : Place} (re : Reached 1 bytes 
       no-set-fault = set-good ts (hyperperiod-in kept) (keeps .good) .0
 
       -- a fault of its entries refuses it
-      refuses-with : (r : Refusal) → fault-behind bytes ts (l .listed) ≡ some r → {t : Timetable} → t ≡ refused-with r → JudgedAs bytes count t kept
-      refuses-with r fault t-is = judged-refused r (rw (reads, no-set-fault, fault)) t-is
+      refuses-with : (r : Located) → fault-behind bytes ts (l .listed) ≡ some (bare r) → r ≡ located bytes (bare r) → JudgedAs bytes count (refused-with r) kept
+      refuses-with r fault there = judged-refused r (rw (reads, no-set-fault, fault)) there refl
 
       -- an entry breaks a rule
-      by-entry : (w .number ≡ 0 → ⊥) → JudgedAs bytes count (refused-with (refusal (w .number) (head-count-of (s .n) + w .entries))) kept
+      by-entry : (w .number ≡ 0 → ⊥) →
+          JudgedAs bytes count
+          (refused-with (record { number = w .number; place = head-count-of (s .n) + w .entries; offset = head-length-of (s .n) + w .entries * size SL })) kept
       by-entry z =
           let more : w .entries < l .listed = more-listed re behind run l frames (rw (← here) (walked .one-more z)) in
           let place : head-count ts + w .entries ≡ head-count-of (s .n) + w .entries = omega (arith, its-tasks-many) in
-          refuses-with _ (walked .broken z (l .listed) more ∙ ap (λ (k : ℕ). some (refusal (w .number) k)) place) refl
+          let entries = entries-begin bytes ts (entries-behind bytes ts (l .listed)) (image-is l frames (framed-tasks re behind run l frames)) in
+          let inside : w .entries ≤ length (entries-behind bytes ts (l .listed)) = omega (arith, more, entries-length bytes (head-length ts) (l .listed)) in
+          refuses-with _ (walked .broken z (l .listed) more ∙ ap (λ (k : ℕ). some (refusal (w .number) k)) place)
+          (run-located bytes (w .number) (walked .of-an-entry z) _ _ SL _ entries (w .entries) inside _ _ (sym place) (omega (arith, its-tasks-many)))
 
       module _ (z : w .number ≡ 0) where
         -- the walk has passed all entries that are listed
@@ -171,15 +196,15 @@ module _ {bytes : List ℕ} (b : Bytes bytes) {p : Place} (re : Reached 1 bytes 
         all = all-listed re behind run l frames (rw (← here) (walked .ends z))
 
         -- a job is missing
-        by-missing : w .missing < s .n → JudgedAs bytes count (refused-with (refusal 16 (w .missing))) kept
+        by-missing : w .missing < s .n → JudgedAs bytes count (refused-with (record { number = 16; place = w .missing; offset = 0 })) kept
         by-missing lt = refuses-with _ (rw all (walked .job-missing z (omega (arith, its-tasks-many)))) refl
 
         -- or nothing is wrong
-        by-none : s .n ≤ w .missing → JudgedAs bytes count (record { refusal = refusal 0 0; set = s; listed = w .entries; counts = w .counts }) kept
+        by-none : s .n ≤ w .missing → JudgedAs bytes count (record { refusal = no-refusal; set = s; listed = w .entries; counts = w .counts }) kept
         by-none le = record {
           refused = λ y. absurd (y refl);
           good = λ _. record {
-            no-refusal = refl;
+            not-refused = refl;
             set-is = is ∙ ap (λ (n : ℕ). set-read n bytes) (sym many);
             tasks-many = its-tasks-many;
             stand = record { keeps = keeps; inside = walked .run .inside };
@@ -205,7 +230,7 @@ module _ {bytes : List ℕ} {count : Bool} {kept : Rows} {t : Timetable} (j : Ju
   -- a refusal is answered as it is
   pub refusal-answered : (t .refusal .number ≡ 0 → ⊥) → check-case.Refused (t .refusal) ≡ check-timetable bytes
   unfolding check-timetable
-  refusal-answered z = sym (ap check-answer (j .refused z .0))
+  refusal-answered z = let r = j .refused z .0 in ap check-case.Refused (r .there) ∙ sym (ap (check-answer bytes) (r .judged))
 
   -- and no refusal is Accepted
   pub acceptance-answered : t .refusal .number ≡ 0 → check-case.Accepted ≡ check-timetable bytes

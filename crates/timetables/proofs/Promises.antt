@@ -15,9 +15,11 @@ use Rattle.rules.specs.declared.CheckAnswer.{CheckAnswer}
 use Rattle.rules.specs.declared.CheckAnswer.the-variants.{Accepted, Refused}
 use Rattle.rules.specs.Refusals.{gives, refuses}
 use Rattle.rules.specs.Judging.{tables}
+use Rattle.rules.specs.Located.{located, bare}
 use Rattle.rules.specs.Operations.{Timed, derived, check-timetable}
 use Rattle.rules.specs.Promised.{TimetableImage, RefusesTimetableImage}
 use Rattle.rules.proofs.Cases.{by-bool, by-nat, clash, gives-in}
+use Rattle.rules.proofs.Locations.{one-refused}
 use Rattle.rules.proofs.Demand2.{accepts-timetable}
 use Rattle.rules.proofs.Promises.{timetable-order}
 use Rattle.framing.specs.SetRead.{set-read}
@@ -43,7 +45,8 @@ accepted-exactly bytes b r e =
     (λ a. exactly .0 (sym e ∙ a), λ w. e ∙ exactly .1 w)
 
 -- it is a refusal exactly where that is the first that the document's order comes to
-pub refused-exactly : (bytes : List ℕ) (r : CheckAnswer) → r ≡ check-timetable bytes → (q : Refusal) → (r ≡ Refused q) ↔ RefusesTimetableImage bytes q
+pub refused-exactly : (bytes : List ℕ) (r : CheckAnswer) → r ≡ check-timetable bytes → (q : Refusal) →
+    (r ≡ Refused (located bytes q)) ↔ RefusesTimetableImage bytes q
 refused-exactly bytes r e q =
     let exactly = timetable-order bytes q in
     (λ a. exactly .0 (sym e ∙ a), λ w. e ∙ exactly .1 w)
@@ -93,7 +96,7 @@ module _ {bytes : List ℕ} {count : Bool} {t u : Timetable} {kept rows : Rows} 
   -- and all of it
   good-same : t ≡ u
   good-same =
-      let r : t .refusal ≡ u .refusal = g .no-refusal ∙ sym (k .no-refusal) in
+      let r : t .refusal ≡ u .refusal = g .not-refused ∙ sym (k .not-refused) in
       λ i. record { refusal = r i; set = same-set i; listed = same-listed i; counts = same-counts i }
 
 -- what is judged good is not refused
@@ -111,11 +114,10 @@ one-judgement t u a b =
     by-nat (t .refusal .number)
     (λ y. by-nat (u .refusal .number)
     (λ z. good-same (a .good y) (b .good z))
-    (λ m z. absurd (good-derived (a .good y) (u .refusal) (b .refused (λ q. omega (arith, q, z)) .0))))
+    (λ m z. absurd (good-derived (a .good y) (bare (u .refusal)) (b .refused (λ q. omega (arith, q, z)) .0 .judged))))
     (λ l y. by-nat (u .refusal .number)
-    (λ z. absurd (good-derived (b .good z) (t .refusal) (a .refused (λ q. omega (arith, q, y)) .0)))
+    (λ z. absurd (good-derived (b .good z) (bare (t .refusal)) (a .refused (λ q. omega (arith, q, y)) .0 .judged)))
     (λ m z.
     let v = a .refused (λ q. omega (arith, q, y)) in
     let w = b .refused (λ q. omega (arith, q, z)) in
-    let same : t .refusal ≡ u .refusal = (let both = sym (v .0) ∙ w .0 in cc) in
-    v .1 ∙ ap refused-with same ∙ sym (w .1)))
+    v .1 ∙ ap refused-with (one-refused (v .0) (w .0)) ∙ sym (w .1)))

@@ -1,20 +1,24 @@
 -- The rules of a start, by what a task's slot holds, and the lowest task with a job missing, by a scan of the slots. Assumes nothing.
 use mathlib.Core.Path.{_≡_, refl, sym, _∙_, ap}
-use mathlib.Core.Bool.{true, false}
+use mathlib.Core.Bool.{Bool, true, false}
 use mathlib.Core.List.{List, [], _∷_}
 use Prim.Native.Nat.{ℕ, zero, suc, _+_, _-_, _≤_, _<_}
 use native.Mathlib.Omega.{arith}
 use lib.Dec.{ltb, leb}
-use lib.ListN.{length}
+use lib.ListN.{length, getD}
 use borrow.Author.Tests.{lt-ltb, le-ltb, le-leb, lt-leb}
 use Rattle.fields.specs.Body.{head₀, tail₀}
 use Rattle.rules.specs.declared.Task.{Task}
+use Rattle.rules.specs.declared.Entry.{Entry}
 use Rattle.rules.specs.Tasks.{Set, task-in, task, release, jobs, KeepsItsRule}
 use Rattle.rules.specs.Priority.{slot, all-started, entry-breaks}
+use Rattle.rules.specs.Timetable.{pick}
 use Rattle.rules.specs.Judging.{missing-from}
+use Rattle.rules.specs.Located.{names-record}
 use Rattle.rules.proofs.Cases.{by-bool, by-le}
+use Rattle.sets.specs.Kept.{Rows, tasks-in, hyperperiod-in, slack-in}
 use Rattle.sets.specs.Scans.{lowest-below}
-use Rattle.timetables.specs.Walks.{start-breaks}
+use Rattle.timetables.specs.Walks.{start-breaks, entry-breaks as walked-breaks}
 use Rattle.timetables.proofs.Releases.{LeftByRelease}
 
 -- a job ends by its deadline exactly where it starts at most D − C behind its release
@@ -35,6 +39,29 @@ module _ (ts : Set) (h : ℕ) (x : List ℕ) (f i s : ℕ) where
       entry-breaks ts h x f i s ≡ start-breaks h (task ts i .deadline - task ts i .time) (release (task ts i) (slot x i)) f s
   breaks-of-task left rule l =
       rw (lt-ltb i (length (ts .tasks)) l, left i l (slot x i), late-by-slack (task ts i) (release (task ts i) (slot x i)) s (rule .fits))
+
+-- a number of a rule is one whose place is a record
+abbrev Named : ℕ → Type 0
+Named number = (number ≡ 0 → ⊥) → names-record number ≡ true
+
+named-pick : (b : Bool) (x y : ℕ) → Named x → Named y → Named (pick b x y)
+named-pick true x y p q = p
+named-pick false x y p q = q
+
+-- so is that of the rule that an entry breaks
+pub breaks-named : (kept : Rows) (releases : List ℕ) (free : ℕ) (e : Entry) → Named (walked-breaks kept releases free e)
+breaks-named kept releases free e =
+    let released : ℕ = getD releases (e .task) 0 in
+    let in-time : Bool = leb (e .start) (released + getD (slack-in kept) (e .task) 0) in
+    let late : ℕ = pick in-time 0 15 in
+    let overlaps : ℕ = pick (leb free (e .start)) late 14 in
+    let early : ℕ = pick (leb released (e .start)) overlaps 13 in
+    let too-many : ℕ = pick (ltb released (hyperperiod-in kept)) early 12 in
+    named-pick (ltb (e .task) (tasks-in kept)) too-many 11
+    (named-pick (ltb released (hyperperiod-in kept)) early 12
+    (named-pick (leb released (e .start)) overlaps 13
+    (named-pick (leb free (e .start)) late 14 (named-pick in-time 0 15 (λ z. absurd (z refl)) (λ _. refl)) (λ _. refl)) (λ _. refl)) (λ _. refl))
+    (λ _. refl)
 
 -- a scan from the next slot on is one of the slots behind the first
 scan-behind : (many i h : ℕ) (rs : List ℕ) → lowest-below many (suc i) h rs ≡ suc (lowest-below many i h (tail₀ rs))

@@ -25,6 +25,7 @@ use Rattle.timetables.specs.Entries.{entry-in}
 use Rattle.timetables.specs.Judged.{EntriesStand, Walked}
 use Rattle.timetables.specs.Instants.{idles-before, inverts}
 use Rattle.timetables.specs.Counted.{no-counts}
+use Rattle.timetables.proofs.StartRules.{breaks-named}
 use Rattle.timetables.proofs.Turns.{at-first, free-after, releases-after, GoodStart, turn-task, turn-good}
 use Rattle.timetables.proofs.EntriesJudged.{JudgedFrom, judged-first, one-missing, none-missing, entry-refused, entry-keeps, judged-next}
 use Rattle.timetables.proofs.Counting.{CountedFrom, counted-first, counted-all, counted-next, counted-with, FewSoFar, few-first, few-kept, few-more}
@@ -66,6 +67,7 @@ module _ {ts : Set} {bytes : List ℕ} {kept : Rows} {count : Bool} {releases : 
     no-fault = λ _ l. none-missing (w .judged) i i-is l;
     counted = λ _ asked. counted-all (w .counted asked) (w .few .slots);
     uncounted = w .uncounted;
+    of-an-entry = λ z. absurd (z (omega arith));
     one-more = λ z. absurd (z (omega arith));
     broken = λ z. absurd (z (omega arith));
   }
@@ -81,6 +83,7 @@ module _ {ts : Set} {bytes : List ℕ} {kept : Rows} {count : Bool} {releases : 
       no-fault = λ y _. absurd (z y);
       counted = λ y _. absurd (z y);
       uncounted = w .uncounted;
+      of-an-entry = λ _. rw q (breaks-named kept releases free e (λ y. z (q ∙ y)));
       one-more = λ _. rw (← (w .judged .here .place)) stands;
       broken = λ _. entry-refused (w .judged) e is number q z;
     }

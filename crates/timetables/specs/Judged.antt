@@ -9,12 +9,14 @@ use lib.ListN.{length}
 use Rattle.rules.specs.declared.TaskSet.{TaskSet}
 use Rattle.rules.specs.declared.Entry.{Entry}
 use Rattle.rules.specs.declared.Refusal.{Refusal}
-use Rattle.rules.specs.Refusals.{gives, refuses, refusal}
+use Rattle.rules.specs.declared.Located.{Located}
+use Rattle.rules.specs.Refusals.{gives, refusal}
 use Rattle.rules.specs.Tasks.{Set, memory-set}
 use Rattle.rules.specs.Timetable.{pick}
 use Rattle.rules.specs.Judging.{timetable-fault}
-use Rattle.rules.specs.Marks.{SL, size, head-count-of}
+use Rattle.rules.specs.Marks.{SL, size, head-count-of, head-length-of}
 use Rattle.rules.specs.Image.{head-count, head-length}
+use Rattle.rules.specs.Located.{names-record, no-refusal, RefusedAt}
 use Rattle.rules.specs.Operations.{read-timetable, derived}
 use Rattle.rules.specs.Dispatcher.{zero-set}
 use Rattle.sets.specs.Kept.{Rows, Keeps}
@@ -47,25 +49,26 @@ pub record Walked (ts : Set) (bytes : List ℕ) (count : Bool) (w : Walk) : Type
   pub no-fault : w .number ≡ 0 → length (ts .tasks) ≤ w .missing → fault-behind bytes ts (w .entries) ≡ none
   pub counted : w .number ≡ 0 → count ≡ true → Counted ts (entries-behind bytes ts (w .entries)) (w .counts)
   pub uncounted : count ≡ false → w .counts ≡ no-counts
+  pub of-an-entry : (w .number ≡ 0 → ⊥) → names-record (w .number) ≡ true
   pub one-more : (w .number ≡ 0 → ⊥) → stands-at bytes (head-length ts + w .entries * size SL) SL ≡ true
   pub broken : (w .number ≡ 0 → ⊥) → (listed : ℕ) → w .entries < listed →
       fault-behind bytes ts listed ≡ some (refusal (w .number) (head-count ts + w .entries))
 
 -- what is handed back with a refusal: no set, no entries and no counts
-abbrev pub refused-with : Refusal → Timetable
+abbrev pub refused-with : Located → Timetable
 refused-with r = record { refusal = r; set = zero-set; listed = 0; counts = no-counts }
 
 -- what a walk over all entries of a framed image comes to: the rule that it broke, a job that is missing, or the set with its entries
 unfoldable pub told-of : TaskSet → Walk → Timetable
 told-of s w =
     pick (eqb (w .number) 0)
-    (pick (ltb (w .missing) (s .n)) (refused-with (refusal 16 (w .missing)))
-    (record { refusal = refusal 0 0; set = s; listed = w .entries; counts = w .counts }))
-    (refused-with (refusal (w .number) (head-count-of (s .n) + w .entries)))
+    (pick (ltb (w .missing) (s .n)) (refused-with (record { number = 16; place = w .missing; offset = 0 }))
+    (record { refusal = no-refusal; set = s; listed = w .entries; counts = w .counts }))
+    (refused-with (record { number = w .number; place = head-count-of (s .n) + w .entries; offset = head-length-of (s .n) + w .entries * size SL }))
 
 -- the set and the entries of an image that is not refused, what is kept of the set, and what is counted where it was asked for
 pub record Good (bytes : List ℕ) (count : Bool) (t : Timetable) (kept : Rows) : Type 0 where
-  pub no-refusal : t .refusal ≡ refusal 0 0
+  pub not-refused : t .refusal ≡ no-refusal
   pub set-is : t .set ≡ set-read (t .set .n) bytes
   pub tasks-many : length (memory-set (t .set) .tasks) ≡ t .set .n
   pub stand : EntriesStand (memory-set (t .set)) bytes kept (t .listed)
@@ -76,5 +79,5 @@ pub record Good (bytes : List ℕ) (count : Bool) (t : Timetable) (kept : Rows) 
 
 -- number 0 stands for no refusal
 pub record JudgedAs (bytes : List ℕ) (count : Bool) (t : Timetable) (kept : Rows) : Type 0 where
-  pub refused : (t .refusal .number ≡ 0 → ⊥) → (derived bytes ≡ refuses (t .refusal)) × (t ≡ refused-with (t .refusal))
+  pub refused : (t .refusal .number ≡ 0 → ⊥) → RefusedAt bytes (derived bytes) (t .refusal) × (t ≡ refused-with (t .refusal))
   pub good : t .refusal .number ≡ 0 → Good bytes count t kept

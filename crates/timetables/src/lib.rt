@@ -6,8 +6,9 @@ use images::ENTRY_SIZE;
 use images::SL;
 use rules::CheckAnswer;
 use rules::Entry;
+use rules::Located;
+use rules::NO_REFUSAL;
 use rules::NO_SET;
-use rules::Refusal;
 use rules::SetAnswer;
 use rules::TaskSet;
 use sets::FIGURES;
@@ -18,11 +19,11 @@ use sets::SLACK;
 use sets::TASKS;
 use sets::TIMES;
 ghost use mathlib.Core.Path.{_≡_};
-ghost use Prim.Native.Nat.{_+_, _≤_, _<_};
+ghost use Prim.Native.Nat.{_+_, _*_, _≤_, _<_};
 ghost use lib.Dec.{ltb};
 ghost use lib.ListN.{length, take};
 ghost use Rattle.rules.specs.Tasks.{Set, largest-number};
-ghost use Rattle.rules.specs.Marks.{head-count-of};
+ghost use Rattle.rules.specs.Marks.{SL as entry-mark, size, head-length-of};
 ghost use Rattle.rules.specs.Operations.{check-timetable};
 ghost use Rattle.sets.specs.Kept.{Keeps};
 ghost use Rattle.timetables.specs.Walks as walks;
@@ -192,14 +193,14 @@ fn walk_entries(image: &[u8], kept: &[[u32; 16]; 6], count: bool) -> Walk
 // What a timetable image comes to: a refusal, with number 0 for none; and the set, how many entries there are, and what was counted of them where that
 // was asked for.
 pub struct Timetable {
-    pub refusal: Refusal,
+    pub refusal: Located,
     pub set: TaskSet,
     pub listed: usize,
     pub counts: Counts,
 }
 
 // What a refusal hands back: nothing with it.
-fn refused(refusal: Refusal) -> Timetable
+fn refused(refusal: Located) -> Timetable
     ensures { λ r. ⌜ r ≡ refused-with refusal ⌝ }
 {
     let set = NO_SET;
@@ -218,27 +219,26 @@ fn refused(refusal: Refusal) -> Timetable
 
 // What a walk over all entries of a framed image comes to: the rule that it broke, a job that is missing, or nothing.
 fn told(set: TaskSet, w: Walk) -> Timetable
-    requires { ⌜ head-count-of (set .n) + w .entries < 18446744073709551616 ⌝ }
+    requires { ⌜ head-length-of (set .n) + w .entries * size entry-mark < 18446744073709551616 ⌝ }
     ensures { λ r. ⌜ r ≡ told-of set w ⌝ }
 {
     let n = set.n as usize;
     if w.number != 0 {
-        return refused(Refusal {
+        return refused(Located {
             number: w.number,
             place: images::head_count(n) + w.entries,
+            offset: images::head_length(n) + w.entries * ENTRY_SIZE,
         });
     }
     if w.missing < n {
-        return refused(Refusal {
+        return refused(Located {
             number: 16,
             place: w.missing,
+            offset: 0,
         });
     }
-    let refusal = Refusal {
-        number: 0,
-        place: 0,
-    };
     let counts = w.counts;
+    let refusal = NO_REFUSAL;
     Timetable {
         refusal,
         set,
@@ -259,7 +259,7 @@ pub fn judge(image: &[u8], count: bool, kept: &mut [[u32; 16]; 6]) -> Timetable
             match sets::judge_set(set, kept) {
                 SetAnswer::Refused(fault) => match framing::frame_from(image, 1, p) {
                     FrameAnswer::Refused(refusal) => refused(refusal),
-                    FrameAnswer::Framed(_) => refused(fault),
+                    FrameAnswer::Framed(_) => refused(framing::set_refused(fault)),
                 },
                 SetAnswer::Good(_) => {
                     let w = walk_entries(image, kept, count);

@@ -77,8 +77,8 @@ store-start-requires c κs =
 element-copy-out-cycle : tie.Need-element-copy-out-cycle
 element-copy-out-cycle c = search needs
 
-element-copy-out-t28 : tie.Need-element-copy-out-t28
-element-copy-out-t28 c = search needs
+element-copy-out-t29 : tie.Need-element-copy-out-t29
+element-copy-out-t29 c = search needs
 
 index-1-absolute : tie.Need-index-1-absolute
 index-1-absolute c = search needs
@@ -131,7 +131,7 @@ start-next-spec =
     enum-known-f
     store-start-requires
     element-copy-out-cycle
-    element-copy-out-t28
+    element-copy-out-t29
     index-1-absolute
     index-2-absolute
     absolute-requires

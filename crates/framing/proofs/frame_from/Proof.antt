@@ -41,6 +41,9 @@ enum-known-r c = search needs
 enum-known-l : tie.Need-enum-known-l Inv-records μ-records
 enum-known-l c = search needs
 
+refusal-at-requires : tie.Need-refusal-at-requires Inv-records μ-records
+refusal-at-requires c κs = search needs
+
 returns : tie.Need-returns Inv-records μ-records
 returns c =
     let e = c .before .before .before in
@@ -48,9 +51,10 @@ returns c =
 
 returns-2 : tie.Need-returns-2 Inv-records μ-records
 returns-2 c =
-    let l = c .before .before .before in
+    let t = c .before in
+    let l = t .before .before .before in
     let e = l .before .before in
-    followed _ _ _ _ (e .step-at .ensures) (e .before .records .inv) _ (l .l .given .1) (c .if1 .taken)
+    rw (c .refusal-at .ensures) (followed _ _ _ _ (e .step-at .ensures) (e .before .records .inv) _ (l .l .given .1) (t .if1 .taken))
 
 returns-3 : tie.Need-returns-3 Inv-records μ-records
 returns-3 c =
@@ -71,6 +75,7 @@ frame-from-spec =
     records-again
     enum-known-r
     enum-known-l
+    refusal-at-requires
     returns
     returns-2
     returns-3)

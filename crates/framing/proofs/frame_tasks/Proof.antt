@@ -51,6 +51,9 @@ enum-known-r c = search needs
 enum-told : tie.Need-enum-told Inv-records μ-records
 enum-told c = search needs
 
+refusal-at-requires : tie.Need-refusal-at-requires Inv-records μ-records
+refusal-at-requires c κs = search needs
+
 returns : tie.Need-returns Inv-records μ-records
 returns c = let i = c .before .before .records .inv in behind-last _ _ _ (i .0) (i .1) (c .if1 .taken)
 
@@ -62,9 +65,10 @@ returns-2 c =
 
 returns-3 : tie.Need-returns-3 Inv-records μ-records
 returns-3 c =
-    let e = c .before .before in
+    let t = c .before in
+    let e = t .before .before in
     let i = e .before .before .before .records .inv in
-    absurd (not-ended _ _ _ (i .0) (i .1) (e .before .if1 .left) _ (e .step-at .ensures) _ (c .enum-told .given .1))
+    absurd (not-ended _ _ _ (i .0) (i .1) (e .before .if1 .left) _ (e .step-at .ensures) _ (t .enum-told .given .1))
 
 pub frame-tasks-spec : {M : Type 1} → statement M
 frame-tasks-spec =
@@ -80,6 +84,7 @@ frame-tasks-spec =
     records-again
     enum-known-r
     enum-told
+    refusal-at-requires
     returns
     returns-2
     returns-3)

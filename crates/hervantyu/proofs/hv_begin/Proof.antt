@@ -3,6 +3,7 @@ use mathlib.Core.Path.{_∙_, ap}
 use borrow.Author.Needs.{needs}
 use Rattle.rules.specs.declared.StartAnswer.{StartAnswer}
 use Rattle.rules.specs.Refusals.{start-tells}
+use Rattle.hervantyu.specs.Lent.{location-of}
 use Rattle.hervantyu.proofs.ToldAnswers.{turn-told}
 use Rattle.hervantyu.proofs.hv_begin.Statement.{statement}
 use Rattle.hervantyu.proofs.hv_begin.Tie as tie
@@ -10,20 +11,20 @@ use Rattle.hervantyu.proofs.hv_begin.Tie as tie
 begin-numbers-requires : tie.Need-begin-numbers-requires
 begin-numbers-requires c κs = search needs
 
-place-in-requires : tie.Need-place-in-requires
-place-in-requires c κs = search needs
+location-in-requires : tie.Need-location-in-requires
+location-in-requires c κs = search needs
 
 told-start-requires : tie.Need-told-start-requires
 told-start-requires c κs = search needs
 
 returns : tie.Need-returns
 returns c =
-    let at-place = c .before .before in
-    let begun = at-place .before .begin-numbers .ensures in
+    let at-location = c .before .before in
+    let begun = at-location .before .begin-numbers .ensures in
     record {
       turn-told = turn-told begun (c .told-start .ensures);
-      its-place = at-place .place-in .ensures ∙ ap (λ (a : StartAnswer). start-tells a .place) (begun .its-answer);
+      its-location = at-location .location-in .ensures ∙ ap (λ (a : StartAnswer). location-of (start-tells a)) (begun .its-answer);
     }
 
 pub hv-begin-spec : {M : Type 1} → statement M
-hv-begin-spec = tie.close (tie.spec begin-numbers-requires place-in-requires told-start-requires returns)
+hv-begin-spec = tie.close (tie.spec begin-numbers-requires location-in-requires told-start-requires returns)

@@ -12,7 +12,7 @@ returns : tie.Need-returns
 returns c = record { short = λ l. (refl, refl); lists = λ l. absurd (omega arith) }
 
 put-too-long-requires : tie.Need-put-too-long-requires
-put-too-long-requires c κs = omega (arith, refused-short too-long (omega arith) (omega arith))
+put-too-long-requires c κs = omega (arith, refused-short too-long (omega arith) (omega arith) (omega arith))
 
 same-length : tie.Need-same-length
 same-length c = search needs

@@ -43,7 +43,7 @@ enum-known-r : tie.Need-enum-known-r
 enum-known-r c = search needs
 
 put-refused-requires : tie.Need-put-refused-requires
-put-refused-requires c κs = omega (arith, refused-short (c .before .before .r .given .0 .0) (omega arith) (omega arith))
+put-refused-requires c κs = omega (arith, refused-short (c .before .before .r .given .0 .0) (omega arith) (omega arith) (omega arith))
 
 enum-known-len : tie.Need-enum-known-len
 enum-known-len c = search needs

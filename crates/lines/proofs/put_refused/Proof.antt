@@ -1,4 +1,4 @@
--- `lines::put_refused` meets its contract: the word is put, and the number and the place behind it. Assumes nothing.
+-- `lines::put_refused` meets its contract: the word is put, and the number, the place and the offset behind it. Assumes nothing.
 use mathlib.Core.List.{_++_}
 use native.Mathlib.Omega.{arith}
 use borrow.Author.Needs.{needs}
@@ -22,10 +22,11 @@ unfolding refused-text
 put-number-requires c κs =
     let word = c .before .before .before .before in
     let start = word .before .before .before .before in
-    let number = number-then (start .args .r .number) space in
-    let place = number-then (start .args .r .place) line-end in
-    first-fits (word .put-bytes .last .0) (word .put-bytes .result) number place
-    (second-fits (number ++ place) (front-fits (start .args .out .now) (refused-text (start .args .r)) (start .pre)) (word .put-bytes .ensures))
+    let r = start .args .r in
+    let number = number-then (r .number) space in
+    let last = number-then (r .place) space ++ number-then (r .offset) line-end in
+    first-fits (word .put-bytes .last .0) (word .put-bytes .result) number last
+    (second-fits (number ++ last) (front-fits (start .args .out .now) (refused-text r) (start .pre)) (word .put-bytes .ensures))
 
 put-number-requires-2 : tie.Need-put-number-requires-2
 unfolding refused-text
@@ -34,9 +35,26 @@ put-number-requires-2 c κs =
     let word = number .before .before .before .before .before in
     let start = word .before .before .before .before in
     let r = start .args .r in
-    let place = number-then (r .place) line-end in
+    let place = number-then (r .place) space in
+    let offset = number-then (r .offset) line-end in
     let room = front-fits (start .args .out .now) (refused-text r) (start .pre) in
-    second-fits place (second-fits (number-then (r .number) space ++ place) room (word .put-bytes .ensures)) (number .put-number .ensures)
+    first-fits (number .put-number .last .0) (number .put-number .result) place offset
+    (second-fits (place ++ offset) (second-fits (number-then (r .number) space ++ (place ++ offset)) room (word .put-bytes .ensures)) (number .put-number .ensures))
+
+put-number-requires-3 : tie.Need-put-number-requires-3
+unfolding refused-text
+put-number-requires-3 c κs =
+    let place = c .before .before .before in
+    let number = place .before .before .before .before in
+    let word = number .before .before .before .before .before in
+    let start = word .before .before .before .before in
+    let r = start .args .r in
+    let offset = number-then (r .offset) line-end in
+    let last = number-then (r .place) space ++ offset in
+    let room = front-fits (start .args .out .now) (refused-text r) (start .pre) in
+    second-fits offset
+    (second-fits last (second-fits (number-then (r .number) space ++ last) room (word .put-bytes .ensures)) (number .put-number .ensures))
+    (place .put-number2 .ensures)
 
 same-length : tie.Need-same-length
 same-length c = search needs
@@ -44,16 +62,19 @@ same-length c = search needs
 returns : tie.Need-returns
 unfolding refused-text
 returns c =
-    let place = c .before .before in
+    let offset = c .before .before in
+    let place = offset .before .before .before .before in
     let number = place .before .before .before .before in
     let word = number .before .before .before .before .before in
     let start = word .before .before .before .before in
     let r = start .args .r in
-    let rest = number-then (r .number) space ++ number-then (r .place) line-end in
+    let last = number-then (r .place) space ++ number-then (r .offset) line-end in
     let room = front-fits (start .args .out .now) (refused-text r) (start .pre) in
+    let behind = second-fits (number-then (r .number) space ++ last) room (word .put-bytes .ensures) in
     text-at-front (start .pre)
     (texts-put room (word .put-bytes .ensures)
-    (texts-put (second-fits rest room (word .put-bytes .ensures)) (number .put-number .ensures) (place .put-number2 .ensures)))
+    (texts-put behind (number .put-number .ensures)
+    (texts-put (second-fits last behind (number .put-number .ensures)) (place .put-number2 .ensures) (offset .put-number3 .ensures))))
 
 pub put-refused-spec : {M : Type 1} → statement M
 put-refused-spec =
@@ -64,5 +85,6 @@ put-refused-spec =
     cast-put-number
     put-number-requires
     put-number-requires-2
+    put-number-requires-3
     same-length
     returns)

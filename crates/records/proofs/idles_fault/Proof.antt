@@ -1,9 +1,11 @@
 -- `records::idles_fault` meets its contract. The invariant: the first fault is that of the ID records from j on. Assumes nothing.
-use mathlib.Core.Path.{ap}
+use mathlib.Core.Path.{refl, ap}
 use mathlib.Core.Logic.{⊎-elim}
 use Prim.Native.Nat.{ℕ, _+_, _-_}
 use native.Mathlib.Omega.{arith}
 use borrow.Author.Needs.{needs}
+use Rattle.rules.specs.Marks.{ID}
+use Rattle.rules.proofs.Locations.{run-located}
 use Rattle.sets.specs.Kept.{tasks-in, hyperperiod-in}
 use Rattle.records.proofs.RecordsJudged.{IdlesFrom, idles-start, idles-end, idle-early, idle-out, idle-short, idles-on}
 use Rattle.records.proofs.idles_fault.Statement.{statement}
@@ -90,17 +92,20 @@ idles-again c =
     (c .before .if3 .left)
 
 returns : tie.Need-returns Inv-idles μ-idles
-returns c = idles-end (c .before .idles .inv) (c .if1 .taken)
+returns c = record { first = idles-end (c .before .idles .inv) (c .if1 .taken); there = refl }
 
 returns-2 : tie.Need-returns-2 Inv-idles μ-idles
 returns-2 c =
     let read = c .before .before in
     let inv = read .before .before .idles .inv in
     let place = ap (λ (first : ℕ). first + read .before .before .idles .j) (read .before .before .before .before .head-count .ensures) in
-    ⊎-elim
-    (λ w. idle-early inv (read .before .if1 .left) _ (read .idle-at .ensures) (w .taken) _ place)
-    (λ w. idle-out inv (read .before .if1 .left) _ (read .idle-at .ensures) (w .0 .left) _ (w .1 .ensures) (w .2 .taken) _ place)
-    (c .if2 .came)
+    record {
+      first = ⊎-elim
+          (λ w. idle-early inv (read .before .if1 .left) _ (read .idle-at .ensures) (w .taken) _ place)
+          (λ w. idle-out inv (read .before .if1 .left) _ (read .idle-at .ensures) (w .0 .left) _ (w .1 .ensures) (w .2 .taken) _ place)
+          (c .if2 .came);
+      there = run-located _ 17 refl _ _ ID _ (read .before .before .before .before .before .before .before .before .pre .1 .idles-begin) _ (inv .place) _ _ place (inv .offset);
+    }
 
 pub idles-fault-spec : {M : Type 1} → statement M
 idles-fault-spec =

@@ -4,6 +4,8 @@ use mathlib.Core.Logic.{⊎-elim}
 use Prim.Native.Nat.{ℕ, _+_, _-_}
 use native.Mathlib.Omega.{arith}
 use borrow.Author.Needs.{needs}
+use Rattle.rules.specs.Marks.{PV}
+use Rattle.rules.proofs.Locations.{run-located}
 use Rattle.records.proofs.RecordsJudged.{InversionsFrom, inversions-start, inversions-end, inversion-low, inversion-out, inversions-on, job-counts}
 use Rattle.records.proofs.inversions_fault.Statement.{statement}
 use Rattle.records.proofs.inversions_fault.Tie as tie
@@ -79,7 +81,7 @@ inversions-again c =
     (above .if2 .left) _ (kept .inversion-keeps .ensures) (c .before .if3 .left)
 
 returns : tie.Need-returns Inv-inversions μ-inversions
-returns c = record { first = λ ts s. inversions-end (c .before .inversions .inv) ts s (c .if1 .taken); no-place = λ z. refl }
+returns c = record { first = λ ts s. inversions-end (c .before .inversions .inv) ts s (c .if1 .taken); no-place = λ z. refl; there = refl }
 
 returns-2 : tie.Need-returns-2 Inv-inversions μ-inversions
 returns-2 c =
@@ -95,6 +97,7 @@ returns-2 c =
           (w .1 .ensures ts s) (w .2 .taken) _ place)
           (c .if2 .came);
       no-place = λ z. absurd (omega arith);
+      there = run-located _ 17 refl _ _ PV _ (begin .before .before .before .pre .inversions-begin) _ (inv .place) _ _ place (inv .offset);
     }
 
 pub inversions-fault-spec : {M : Type 1} → statement M

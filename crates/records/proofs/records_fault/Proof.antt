@@ -12,8 +12,9 @@ returns c =
     let a = found .before .before .args in
     record {
       first = λ ts s.
-          records-by-idle (a .image .now) ts _ _ (a .idles) (a .inversions) (s .n-tasks) _ (found .idles-fault .ensures) (c .if1 .taken);
+          records-by-idle (a .image .now) ts _ _ (a .idles) (a .inversions) (s .n-tasks) _ (found .idles-fault .ensures .first) (c .if1 .taken);
       no-place = λ z. absurd (c .if1 .taken z);
+      there = found .idles-fault .ensures .there;
     }
 
 inversions-fault-requires : tie.Need-inversions-fault-requires
@@ -27,9 +28,10 @@ returns-2 c =
     let told = c .inversions-fault .ensures in
     record {
       first = λ ts s.
-          records-by-inversion (a .image .now) ts _ _ (a .idles) (a .inversions) (s .n-tasks) _ _ (found .idles-fault .ensures) (passed .if1 .left)
+          records-by-inversion (a .image .now) ts _ _ (a .idles) (a .inversions) (s .n-tasks) _ _ (found .idles-fault .ensures .first) (passed .if1 .left)
           (told .first ts s);
       no-place = told .no-place;
+      there = told .there;
     }
 
 pub records-fault-spec : {M : Type 1} → statement M

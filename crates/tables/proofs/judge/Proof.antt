@@ -1,12 +1,13 @@
 -- `tables::judge` meets its contract: by framing, by the set or by the records. Assumes nothing.
-use mathlib.Core.Path.{_≡_, sym, _∙_}
+use mathlib.Core.Path.{_≡_, sym, _∙_, ap}
 use Rattle.fields.specs.Number.{Bytes}
 use Rattle.fields.proofs.Laws.{bytes-by-index}
 use Rattle.rules.specs.Refusals.{gives}
 use Rattle.rules.specs.Framing.{frame}
 use Rattle.framing.proofs.Promises.{framed-is}
 use Rattle.framing.proofs.RoomLaws.{framed-room}
-use Rattle.tables.proofs.ImagesJudged.{judged-by-framing, judged-by-set}
+use Rattle.tables.specs.Judged.{refused-with}
+use Rattle.tables.proofs.ImagesJudged.{judged-by-framing, set-fault-place, judged-by-set}
 use borrow.Author.Needs.{needs}
 use Rattle.tables.proofs.judge.Statement.{statement}
 use Rattle.tables.proofs.judge.Tie as tie
@@ -17,7 +18,7 @@ bytes c = bytes-by-index (c .before .args .image .now) (λ i. c .shared-slice-kn
 
 -- what is known where framing has given a layout
 framed : (c : tie.After-l) → frame 2 (c .before .before .before .before .args .image .now) ≡ gives (c .l .given .0 .0)
-framed c = framed-is _ _ (sym (c .l .given .1) ∙ c .before .before .frame .ensures)
+framed c = framed-is _ _ _ (sym (c .l .given .1) ∙ c .before .before .frame .ensures)
 
 frame-requires : tie.Need-frame-requires
 frame-requires c κs = search needs
@@ -37,8 +38,17 @@ read-set-requires c κs = framed-room 2 _ _ (framed (c .before))
 judge-set-requires : tie.Need-judge-set-requires
 judge-set-requires c κs = search needs
 
-enum-known-refusal-2 : tie.Need-enum-known-refusal-2
-enum-known-refusal-2 c = search needs
+enum-known-fault : tie.Need-enum-known-fault
+enum-known-fault c = search needs
+
+set-refused-requires : tie.Need-set-refused-requires
+set-refused-requires c κs =
+    let told = c .before in
+    let judged = told .before .before in
+    let read = judged .before .before in
+    let layout = read .before .before in
+    set-fault-place _ (bytes (layout .before .before .before)) (framed layout) (read .read-set .ensures) _
+    (sym (told .fault .given .1) ∙ judged .judge-set .ensures .answer)
 
 refused-requires-2 : tie.Need-refused-requires-2
 refused-requires-2 c κs = search needs
@@ -61,12 +71,12 @@ returns c = judged-by-framing _ _ _ (c .before .before .before .before .frame .e
 
 returns-2 : tie.Need-returns-2
 returns-2 c =
-    let told = c .before .before in
+    let told = c .before .before .before in
     let judged = told .before .before in
     let read = judged .before .before in
     let layout = read .before .before in
     judged-by-set _ (bytes (layout .before .before .before)) (framed layout) (read .read-set .ensures) _ _
-    (sym (told .refusal2 .given .1) ∙ judged .judge-set .ensures .answer) (c .refused2 .ensures)
+    (sym (told .fault .given .1) ∙ judged .judge-set .ensures .answer) (c .refused2 .ensures ∙ ap refused-with (c .before .set-refused .ensures))
 
 returns-3 : tie.Need-returns-3
 returns-3 c = c .judge-records .ensures
@@ -81,7 +91,8 @@ judge-spec =
     enum-known-l
     read-set-requires
     judge-set-requires
-    enum-known-refusal-2
+    enum-known-fault
+    set-refused-requires
     refused-requires-2
     enum-told
     judge-records-requires

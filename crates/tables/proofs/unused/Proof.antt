@@ -27,14 +27,14 @@ returns c =
     let left : a .idle < behind-idles (a .first) (a .idles) = omega arith in
     rw (lt-ltb (a .idle) (behind-idles (a .first) (a .idles)) left)
 
-add-t14 : tie.Need-add-t14
-add-t14 c = search needs
+add-t15 : tie.Need-add-t15
+add-t15 c = search needs
 
-sub-t16 : tie.Need-sub-t16
-sub-t16 c = c .before .before .pre .wasted-behind (omega arith) (omega arith)
+sub-t17 : tie.Need-sub-t17
+sub-t17 c = c .before .before .pre .wasted-behind (omega arith) (omega arith)
 
-add-t18 : tie.Need-add-t18
-add-t18 c = search needs
+add-t19 : tie.Need-add-t19
+add-t19 c = search needs
 
 returns-2 : tie.Need-returns-2
 unfolding unused-at
@@ -52,4 +52,4 @@ returns-3 c =
 
 pub unused-spec : {M : Type 1} → statement M
 unused-spec =
-    tie.close (tie.spec mul-inversions add-inversions sub-t11 add-t13 returns add-t14 sub-t16 add-t18 returns-2 returns-3)
+    tie.close (tie.spec mul-inversions add-inversions sub-t11 add-t13 returns add-t15 sub-t17 add-t19 returns-2 returns-3)

@@ -1,13 +1,13 @@
 -- `timetables::judge` meets its contract: by framing, by the set or by the entries. Assumes nothing.
-use mathlib.Core.Path.{sym, _∙_}
+use mathlib.Core.Path.{sym, _∙_, ap}
 use native.Mathlib.Omega.{arith}
 use borrow.Author.Needs.{needs}
 use Rattle.fields.specs.Number.{Bytes}
 use Rattle.fields.proofs.Laws.{bytes-by-index}
 use Rattle.rules.specs.Tasks.{memory-set}
 use Rattle.framing.specs.Frames.{Reached, BehindTasks}
-use Rattle.timetables.specs.Judged.{Walked}
-use Rattle.timetables.proofs.ImagesJudged.{judged-by-tasks, behind-tasks, judged-by-framing, tasks-inside, set-stands, judged-by-set}
+use Rattle.timetables.specs.Judged.{Walked, refused-with}
+use Rattle.timetables.proofs.ImagesJudged.{judged-by-tasks, behind-tasks, judged-by-framing, tasks-inside, set-stands, set-fault-place, judged-by-set}
 use Rattle.timetables.proofs.ImagesJudged.{few-entries, walk-reached, judged-told}
 use Rattle.timetables.proofs.judge.Statement.{statement}
 use Rattle.timetables.proofs.judge.Tie as tie
@@ -81,6 +81,13 @@ refused-requires-2 c κs = search needs
 enum-told : tie.Need-enum-told
 enum-told c = search needs
 
+set-refused-requires : tie.Need-set-refused-requires
+set-refused-requires c κs =
+    let f = c .before .before in
+    let j = f .before .before .before .before in
+    let q = behind (framed j) in
+    set-fault-place (bytes (framed j)) (q .0) (q .1) (read j .read-set .ensures) _ (sym (f .before .before .fault .given .1) ∙ j .judge-set .ensures .answer)
+
 refused-requires-3 : tie.Need-refused-requires-3
 refused-requires-3 c κs = search needs
 
@@ -121,7 +128,7 @@ told-requires c κs =
     let j = judged w in
     let q = behind (framed j) in
     let few = few-entries (bytes (framed j)) (q .0) (q .1) (read j .read-set .ensures) (walked w) in
-    omega (arith, few .0, begin (framed j) .good .0)
+    omega (arith, few .1, q .1 .offset, begin (framed j) .good .0)
 
 returns : tie.Need-returns
 returns c = judged-by-tasks _ (c .before .before .before .before .frame-tasks .ensures) _ (c .before .before .refusal .given .1) (c .refused .ensures)
@@ -131,12 +138,12 @@ returns-2 c = judged-by-framing _ (c .before .before .before .before .frame-from
 
 returns-3 : tie.Need-returns-3
 returns-3 c =
-    let told = c .before in
+    let told = c .before .before in
     let f = told .before .before in
     let j = f .before .before .before .before in
     let q = behind (framed j) in
     judged-by-set (bytes (framed j)) (q .0) (q .1) (read j .read-set .ensures) _
-    (sym (f .before .before .fault .given .1) ∙ j .judge-set .ensures .answer) _ _ (f .frame-from .ensures) (told .enum-told .given .1) (c .refused3 .ensures)
+    (sym (f .before .before .fault .given .1) ∙ j .judge-set .ensures .answer) _ _ (f .frame-from .ensures) (told .enum-told .given .1) (c .refused3 .ensures ∙ ap refused-with (c .before .set-refused .ensures))
 
 returns-4 : tie.Need-returns-4
 returns-4 c = judged-by-framing _ (c .before .before .before .before .frame-from2 .ensures) _ (c .before .before .refusal3 .given .1) (c .refused4 .ensures)
@@ -166,6 +173,7 @@ judge-spec =
     enum-known-refusal-2
     refused-requires-2
     enum-told
+    set-refused-requires
     refused-requires-3
     enum-told-2
     walk-entries-requires

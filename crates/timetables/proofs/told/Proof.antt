@@ -15,14 +15,24 @@ head-count-requires c κs = search needs
 add-t8 : tie.Need-add-t8
 add-t8 c = search needs
 
+head-length-requires : tie.Need-head-length-requires
+head-length-requires c κs = search needs
+
+mul-t10 : tie.Need-mul-t10
+mul-t10 c = search needs
+
+add-t11 : tie.Need-add-t11
+add-t11 c = search needs
+
 refused-requires : tie.Need-refused-requires
 refused-requires c κs = search needs
 
 returns : tie.Need-returns
 unfolding told-of
 returns c =
-    let counted = c .before .before in
-    rw (ne-eqb _ _ (counted .before .if1 .taken), ← (counted .head-count .ensures)) (c .refused .ensures)
+    let measured = c .before .before in
+    let counted = measured .before .before in
+    rw (ne-eqb _ _ (counted .before .if1 .taken), ← (counted .head-count .ensures), ← (measured .head-length .ensures)) (c .refused .ensures)
 
 refused-requires-2 : tie.Need-refused-requires-2
 refused-requires-2 c κs = search needs
@@ -42,6 +52,9 @@ told-spec =
     cast-n
     head-count-requires
     add-t8
+    head-length-requires
+    mul-t10
+    add-t11
     refused-requires
     returns
     refused-requires-2
