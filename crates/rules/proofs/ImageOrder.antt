@@ -24,7 +24,7 @@ use Rattle.rules.specs.Order.{timetable-tests, record-tests, RefusesTabl
 use Rattle.rules.specs.Framing.{frame}
 use Rattle.rules.specs.Image.{timetable-image, table-image, head-count}
 use Rattle.rules.specs.Located.{located, bare, RefusedAt}
-use Rattle.rules.specs.Operations.{Timed, Tabled, read-timetable, read-tables, derive-from, rebuild-from, derived, rebuilt, check-answer, check-timetable, check-tables, into, write-tables, write-timetable, derived-image, rebuilt-image, make-answer, output-after, derive, derive-output, rebuild, rebuild-output}
+use Rattle.rules.specs.Operations.{read-timetable, read-tables, derive-from, rebuild-from, derived, rebuilt, check-answer, check-timetable, check-tables, into, derived-image, rebuilt-image, make-answer, output-after, derive, derive-output, rebuild, rebuild-output}
 use Rattle.rules.specs.Promised.{TimetableImage, TableImage, RefusesTimetableImage, RefusesTableImage}
 use Rattle.rules.proofs.Cases.{clash, first-none}
 use Rattle.rules.proofs.Locations.{refused-at}
@@ -181,55 +181,57 @@ refused-too-long bytes room result z e = (
 refusal-keeps : (bytes : List ℕ) (z : Judged (List ℕ)) (old : List ℕ) (r : Located) → make-answer bytes z ≡ make-case.Refused r → output-after z old ≡ old
 refusal-keeps bytes z old r e = rw (make-refuses bytes z r e .judged)
 
+-- an image that is made of what was judged
+module _ {A : Type 0} (bytes : List ℕ) (z : Judged A) (room : ℕ) (result : A → List ℕ) (r : Located) where
+  -- making it refuses what judging refused, in the same way
+  refused-making : RefusedAt bytes z r → make-answer bytes (then z (λ a. into room (result a))) ≡ make-case.Refused r
+  refused-making w =
+      ap (λ (y : Judged A). make-answer bytes (then y (λ a. into room (result a)))) (w .judged) ∙ ap make-case.Refused (sym (w .there))
+
+  -- and otherwise only with 20, last
+  making-refuses : make-answer bytes (then z (λ a. into room (result a))) ≡ make-case.Refused r →
+      (check-answer bytes z ≡ check-case.Refused r) ⊎ ((r ≡ located bytes (refusal 20 0)) × (check-answer bytes z ≡ check-case.Accepted))
+  making-refuses e =
+      let w = make-refuses bytes (then z (λ a. into room (result a))) r e in
+      by-then z (λ a. into room (result a)) (bare r) (w .judged) (λ q. inl (ap (check-answer bytes) q ∙ ap check-case.Refused (sym (w .there))))
+      (λ a q d. inr (w .there ∙ ap (located bytes) (into-refuses room (result a) (bare r) d .1), ap (check-answer bytes) q))
+
 module _ (bytes old : List ℕ) (r : Located) where
-  -- deriving refuses what checking refuses, in the same way
+  -- so deriving refuses what checking refuses
   pub refused-derive : check-timetable bytes ≡ check-case.Refused r → derive bytes old ≡ make-case.Refused r
   unfolding derive
-  refused-derive e =
-      let w = timetable-refused-at bytes r e in
-      ap (λ (z : Judged Tabled). make-answer bytes (then z (write-tables (length old)))) (w .judged) ∙ ap make-case.Refused (sym (w .there))
+  refused-derive e = refused-making bytes (derived bytes) (length old) (λ i. table-image (i .set) (i .tables)) r (timetable-refused-at bytes r e)
+
+  -- and 20
+  pub derive-refuses : derive bytes old ≡ make-case.Refused r →
+      (check-timetable bytes ≡ check-case.Refused r) ⊎ ((r ≡ located bytes (refusal 20 0)) × (check-timetable bytes ≡ check-case.Accepted))
+  unfolding check-timetable derive
+  derive-refuses = making-refuses bytes (derived bytes) (length old) (λ i. table-image (i .set) (i .tables)) r
 
   -- what it refuses is located
   pub derive-refused-at : derive bytes old ≡ make-case.Refused r → r ≡ located bytes (bare r)
   unfolding derive
   derive-refused-at e = make-refuses bytes (derived-image (length old) bytes) r e .there
 
-  -- and otherwise only with 20, last
-  pub derive-refuses : derive bytes old ≡ make-case.Refused r →
-      (check-timetable bytes ≡ check-case.Refused r) ⊎ ((r ≡ located bytes (refusal 20 0)) × (check-timetable bytes ≡ check-case.Accepted))
-  unfolding check-timetable derive
-  derive-refuses e =
-      let w = make-refuses bytes (derived-image (length old) bytes) r e in
-      by-then (derived bytes) (write-tables (length old)) (bare r) (w .judged) (λ q. inl (ap (check-answer bytes) q ∙ ap check-case.Refused (sym (w .there))))
-      (λ i q d. inr (w .there ∙ ap (located bytes) (into-refuses (length old) (table-image (i .set) (i .tables)) (bare r) d .1), ap (check-answer bytes) q))
-
   -- it then leaves every byte of the output as it was
   pub derive-keeps : derive bytes old ≡ make-case.Refused r → derive-output bytes old ≡ old
   unfolding derive derive-output
   derive-keeps e = refusal-keeps bytes (derived-image (length old) bytes) old r e
 
-  -- rebuilding refuses what checking refuses, in the same way
+  -- and rebuilding likewise
   pub refused-rebuild : check-tables bytes ≡ check-case.Refused r → rebuild bytes old ≡ make-case.Refused r
   unfolding rebuild
-  refused-rebuild e =
-      let w = tables-refused-at bytes r e in
-      ap (λ (z : Judged Timed). make-answer bytes (then z (write-timetable (length old)))) (w .judged) ∙ ap make-case.Refused (sym (w .there))
+  refused-rebuild e = refused-making bytes (rebuilt bytes) (length old) (λ i. timetable-image (i .set) (i .entries)) r (tables-refused-at bytes r e)
 
-  -- what it refuses is located
+  pub rebuild-refuses : rebuild bytes old ≡ make-case.Refused r →
+      (check-tables bytes ≡ check-case.Refused r) ⊎ ((r ≡ located bytes (refusal 20 0)) × (check-tables bytes ≡ check-case.Accepted))
+  unfolding check-tables rebuild
+  rebuild-refuses = making-refuses bytes (rebuilt bytes) (length old) (λ i. timetable-image (i .set) (i .entries)) r
+
   pub rebuild-refused-at : rebuild bytes old ≡ make-case.Refused r → r ≡ located bytes (bare r)
   unfolding rebuild
   rebuild-refused-at e = make-refuses bytes (rebuilt-image (length old) bytes) r e .there
 
-  -- and otherwise only with 20, last
-  pub rebuild-refuses : rebuild bytes old ≡ make-case.Refused r →
-      (check-tables bytes ≡ check-case.Refused r) ⊎ ((r ≡ located bytes (refusal 20 0)) × (check-tables bytes ≡ check-case.Accepted))
-  unfolding check-tables rebuild
-  rebuild-refuses e =
-      let w = make-refuses bytes (rebuilt-image (length old) bytes) r e in
-      by-then (rebuilt bytes) (write-timetable (length old)) (bare r) (w .judged) (λ q. inl (ap (check-answer bytes) q ∙ ap check-case.Refused (sym (w .there))))
-      (λ i q d. inr (w .there ∙ ap (located bytes) (into-refuses (length old) (timetable-image (i .set) (i .entries)) (bare r) d .1), ap (check-answer bytes) q))
-
-  -- it then leaves every byte of the output as it was
   pub rebuild-keeps : rebuild bytes old ≡ make-case.Refused r → rebuild-output bytes old ≡ old
   unfolding rebuild rebuild-output
   rebuild-keeps e = refusal-keeps bytes (rebuilt-image (length old) bytes) old r e

@@ -45,7 +45,7 @@ refused-behind {kind} (later-record {s = s} {t = t} {bytes = rest} {m = m} f a g
     refused-behind q bytes (ap (drop (size m)) e ∙ drop-drop (size m) (s .offset) bytes ∙ ap (λ (i : ℕ). drop i bytes) (sym (past .1)))
     (rw (past .0, past .1) (behind-a-record m b (rw e at (mark-front rest m (a .first-byte) (a .second-byte))) inside))
 
--- so a refusal of framing is that of a record behind which as many others stand as its place says
+-- so a refusal of framing is that of a record with as many others before it as its place says
 pub framing-begins : (kind : ℕ) (bytes : List ℕ) (r : Refusal) → frame kind bytes ≡ refuses r → Begins bytes (r .place) (offset-of (r .place) bytes)
 framing-begins kind bytes r e =
     let b = refused-behind (framing-order kind bytes r .0 e) bytes refl at-the-front in rw (begins-offset (b .1)) (b .1)

@@ -167,18 +167,18 @@ tables-only {bytes} {i} e (of-tables {i = k} q) z =
     ap (λ (x : Tabled). table-records (x .set) (x .tables)) (gives-in k i (sym q ∙ e))
 
 -- of everything that refuses a timetable image
-pub timetable-byte : (bytes : List ℕ) → Bytes bytes → (r : Refusal) → RefusesTimetableImage bytes r → TheByte 1 bytes (r .number) (r .place) (refusal-offset bytes r)
-timetable-byte bytes b r (RefusesTimetableImage.by-framing q) = framing-byte 1 bytes r (framing-order 1 bytes r .1 q)
-timetable-byte bytes b r (RefusesTimetableImage.by-a-test {i = i} q f) =
+timetable-refusal-byte : (bytes : List ℕ) → Bytes bytes → (r : Refusal) → RefusesTimetableImage bytes r → TheByte 1 bytes (r .number) (r .place) (refusal-offset bytes r)
+timetable-refusal-byte bytes b r (RefusesTimetableImage.by-framing q) = framing-byte 1 bytes r (framing-order 1 bytes r .1 q)
+timetable-refusal-byte bytes b r (RefusesTimetableImage.by-a-test {i = i} q f) =
     let many = timetable-many (i .set) (i .entries) in
     held-byte 1 bytes (timetable-records (i .set) (i .entries)) (framed-timetable bytes b i q .1) (λ qs of. timetable-only q of refl) r
     (first-has (Inside (length (timetable-records (i .set) (i .entries)))) f
     (entries-inside (i .set) (hyperperiod (i .set)) (i .entries) (length (timetable-records (i .set) (i .entries))) (omega arith)) r refl)
 
 -- and a table image
-pub tables-byte : (bytes : List ℕ) → Bytes bytes → (r : Refusal) → RefusesTableImage bytes r → TheByte 2 bytes (r .number) (r .place) (refusal-offset bytes r)
-tables-byte bytes b r (RefusesTableImage.by-framing q) = framing-byte 2 bytes r (framing-order 2 bytes r .1 q)
-tables-byte bytes b r (RefusesTableImage.by-its-tables {i = i} q f) =
+table-refusal-byte : (bytes : List ℕ) → Bytes bytes → (r : Refusal) → RefusesTableImage bytes r → TheByte 2 bytes (r .number) (r .place) (refusal-offset bytes r)
+table-refusal-byte bytes b r (RefusesTableImage.by-framing q) = framing-byte 2 bytes r (framing-order 2 bytes r .1 q)
+table-refusal-byte bytes b r (RefusesTableImage.by-its-tables {i = i} q f) =
     held-byte 2 bytes (table-records (i .set) (i .tables)) (framed-tables bytes b i q .1) (λ qs of. tables-only q of refl) r
     (rw (table-many (i .set) (i .tables)) (tables-inside (i .set) (i .tables) f))
 
@@ -194,10 +194,10 @@ module _ (bytes : List ℕ) (b : Bytes bytes) where
   -- so it is with the refusals of plain checking
   checked-timetable-byte : (r : Located) → check-timetable bytes ≡ check-case.Refused r → TheByte 1 bytes (r .number) (r .place) (r .offset)
   checked-timetable-byte r e =
-      rw (timetable-refused-at bytes r e .there) (timetable-byte bytes b (bare r) (timetable-refusals bytes r e))
+      rw (timetable-refused-at bytes r e .there) (timetable-refusal-byte bytes b (bare r) (timetable-refusals bytes r e))
 
   checked-tables-byte : (r : Located) → check-tables bytes ≡ check-case.Refused r → TheByte 2 bytes (r .number) (r .place) (r .offset)
-  checked-tables-byte r e = rw (tables-refused-at bytes r e .there) (tables-byte bytes b (bare r) (table-refusals bytes r e))
+  checked-tables-byte r e = rw (tables-refused-at bytes r e .there) (table-refusal-byte bytes b (bare r) (table-refusals bytes r e))
 
   -- with what every function tells of an image
   pub timetable-tells : (a : CheckAnswer) → check-timetable bytes ≡ a → TheByte 1 bytes (check-tells a .number) (check-tells a .place) (check-tells a .offset)
