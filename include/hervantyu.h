@@ -1,13 +1,15 @@
 /* Hervantyu: schedule images judged, derived, rebuilt and dispatched from, for the far end of the cable.
  *
- * Every function returns the number of the refusal, 0 where nothing is refused. A function that judges an image stores in where[0] the refusal's place and in
- * where[1] the byte offset, in that image, of the record that the place names; both are 0 where nothing is refused. hv_judge_set stores the place alone, in
- * *place: a set in memory has no bytes. hv_go_on stores neither, both would be 0. On a refusal every other number and every byte that was lent stays as it
- * was, but for a dispatcher's record, which is then what hv_begin and hv_go_on say below.
+ * Every function but hv_intake_begin, which refuses nothing, returns the number of the refusal, 0 where nothing is refused. A function that judges an image
+ * stores in where[0] the refusal's place and in where[1] the byte offset, in that image, of the record that the place names; both are 0 where nothing is
+ * refused. hv_judge_set stores the place alone, in *place: a set in memory has no bytes. hv_go_on and hv_intake_take store neither, both would be 0. On a
+ * refusal every other number and every byte that was lent stays as it was, but for a dispatcher's record and an intake, which are then what their functions
+ * say below.
  *
  * What the caller sees to, and no call tests: no pointer is null, also where a length is 0; numbers are aligned as C aligns them (images may begin at any
  * byte); a length is that of the memory behind its pointer; no two regions that are lent to one call overlap, so an image cannot be turned into its other
- * kind in place; and nothing else changes what was lent while the call runs. Nothing is promised to a caller that does not keep to this.
+ * kind in place, nor a fragment be taken out of the buffer that it goes to; and nothing else changes what was lent while the call runs. Nothing is promised to
+ * a caller that does not keep to this.
  *
  * A length has 64 bits on every processor, also where a pointer and a size_t have 32: the proved code has 64-bit lengths, and only addresses are narrower there.
  * Nothing but numbers of 32 and of 64 bits and pointers crosses this border. A length that a caller keeps as size_t is widened by its C compiler.
@@ -28,7 +30,8 @@
  *                       job is missing (16)
  *   17, 18, 19          the records of tables: in turn, one breaks its own rule or comes out of its turn (17); then their replay, a job would start too
  *                       late for its deadline (18); then a record changes nothing, the replayed timetable's own tables are without it (19)
- *   20                  the result is longer than the lent output
+ *   20                  the result is longer than the lent output; and, before everything else, for an intake: it is shut, its count is above the length of the
+ *                       lent buffer, or a fragment does not fit behind what was taken
  *   21 to 25            going on from a dispatcher's state, see hv_go_on
  * A place is the index of the record at fault, from 0 (TS is 0, the TK of task i is 1 + i); for 8, 9 and 20 it is 0, for 16 the lowest task number with a
  * job missing, for 18 the index of the late job among the starts, from 0.
@@ -118,6 +121,47 @@ uint32_t hv_begin(struct hv_dispatcher *HV_RESTRICT d, const uint8_t *HV_RESTRIC
  * 4,294,967,295 is over, and then with 24: so 25 never comes.
  * Whatever else is lent, any bytes and any numbers in *d, the call answers as above; a change is found (25) only where it makes bytes or state impossible. */
 uint32_t hv_go_on(struct hv_dispatcher *HV_RESTRICT d, const uint8_t *HV_RESTRICT image, uint64_t len, uint64_t end, uint64_t start[HV_LENT(4)]);
+
+/* An intake: an image that comes in fragments, of whatever lengths, is collected in a lent buffer and judged at a close. Its state is these two numbers, kept
+ * by the caller beside the buffer and changed in place by every call. It is open where open is 1, and shut where open is anything else. count is how many bytes
+ * were taken; they stand at the front of the buffer, and what stands behind them is never looked at. Every 20 that hv_intake_take gives and every close,
+ * whatever it answers, leaves both numbers 0, also of an intake that was shut before: from then on every call gives 20 until hv_intake_begin.
+ *
+ * Guarantee, from hv_intake_begin on, that every call is lent *k as the call before left it, and a buffer whose first count bytes are as the call before left
+ * them (both may lie elsewhere, and the buffer may have another length, at each call), and that no call on an intake is interrupted by another call on it or
+ * on its buffer. Then a close answers what hv_check_tables, or hv_rebuild, answers for the fragments joined in one image: number, place, byte offset and
+ * timetable, however that image was cut.
+ * Whatever else is lent, any bytes and any two numbers in *k, each call answers as below. */
+struct hv_intake {
+    uint64_t open, count;
+};
+
+#ifdef __cplusplus
+static_assert(sizeof(struct hv_intake) == 2 * sizeof(uint64_t), "an intake is its two numbers and nothing else");
+#else
+_Static_assert(sizeof(struct hv_intake) == 2 * sizeof(uint64_t), "an intake is its two numbers and nothing else");
+#endif
+
+/* Begins an intake: open 1, count 0. What *k held before changes nothing, it need not be set; and what was collected before is dropped. No buffer is lent, so
+ * its bytes stay as they are. */
+void hv_intake_begin(struct hv_intake *HV_RESTRICT k);
+
+/* Takes a fragment of any length, 0 too: its bytes go to buffer[count] and on, and count grows by len. No other byte of the buffer is written. A fragment that
+ * fills the buffer to its last byte fits. Gives 20 where the intake is shut, where count is above room (for a fragment of length 0 too), or where len is above
+ * room - count; the buffer then keeps every byte, and both numbers of *k are 0. */
+uint32_t hv_intake_take(struct hv_intake *HV_RESTRICT k, uint8_t *HV_RESTRICT buffer, uint64_t room, const uint8_t *HV_RESTRICT fragment, uint64_t len);
+
+/* Closes and judges: the front of the buffer up to count is checked as hv_check_tables checks an image. Gives 20 where the intake is shut or count is above
+ * room; else 1 to 10, 17, 18, 19 as checking tables does, with nothing taken 1 at place 0 and byte 0. Where nothing is refused *length is the image's length,
+ * which is count: buffer and *length are then ready for hv_begin. Whatever it answers, both numbers of *k are 0 after it. */
+uint32_t hv_intake_close(struct hv_intake *HV_RESTRICT k, const uint8_t *HV_RESTRICT buffer, uint64_t room, uint64_t where[HV_LENT(2)],
+                         uint64_t *HV_RESTRICT length);
+
+/* Closes, judges and rebuilds: the front of the buffer up to count is turned into its timetable image as hv_rebuild turns an image. Gives 20 where the intake
+ * is shut or count is above room; else 1 to 10, 17, 18, 19, then 20 where the timetable image is longer than out. Where nothing is refused it fills the front
+ * of out, *length is its length, and the bytes of out behind it keep their values. Whatever it answers, both numbers of *k are 0 after it. */
+uint32_t hv_intake_rebuild(struct hv_intake *HV_RESTRICT k, const uint8_t *HV_RESTRICT buffer, uint64_t room, uint8_t *HV_RESTRICT out, uint64_t out_room,
+                           uint64_t where[HV_LENT(2)], uint64_t *HV_RESTRICT length);
 
 #ifdef __cplusplus
 }

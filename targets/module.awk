@@ -10,7 +10,7 @@
 # of a number, or another byte of a pointer; a pointer that is kept at an offset that is not constant; and an alloca of one pointer, 4 bytes on such a processor,
 # that is used as anything else or lent on. What a loaded pointer points to is a root of its own: the language keeps apart what is lent.
 BEGIN {
-    drives = "hv_begin hv_go_on hv_check_tables" # what a drive calls
+    drives = "hv_begin hv_go_on hv_check_tables hv_intake_begin hv_intake_take hv_intake_close" # what a drive calls
     most = 1024                                  # places behind a root that are looked at
     bytes["i1"] = bytes["i8"] = 1; bytes["i16"] = 2; bytes["i32"] = 4; bytes["i64"] = bytes["ptr"] = 8
 }
@@ -92,10 +92,10 @@ function call(text,    callee, count, i, word) {
         if (part[i] !~ /^(ptr|i1|i8|i16|i32|i64)( noundef| zeroext)* %[A-Za-z0-9_.]+$/) unknown()
         parameter[name, i] = part[i]; sub(/^.* /, "", parameter[name, i])
         parameter_type[name, i] = substr(part[i], 1, index(part[i], " ") - 1)
-        # What crosses the border of the archive: 32- and 64-bit numbers and pointers.
+        # What crosses the border of the archive: 32- and 64-bit numbers and pointers; and a number of 32 bits as the result, or none.
         if ($2 != "internal" && part[i] !~ /^(ptr|i32|i64) noundef %/) tell(name ": a parameter that is not a pointer or a number of 32 or 64 bits: " part[i])
     }
-    if ($2 != "internal" && $0 !~ /^define noundef i32 @/) tell(name ": a result that is not a number of 32 bits")
+    if ($2 != "internal" && $0 !~ /^define (noundef i32|void) @/) tell(name ": a result that is neither none nor a number of 32 bits")
     next
 }
 /^\}$/ { in_function = 0; next }

@@ -2,6 +2,7 @@
 //! lines whose stored answer differs and counts them.
 
 mod archive;
+#[allow(dead_code)]
 mod written;
 
 use std::io::{stdin, stdout, BufRead, BufWriter, Write};

@@ -2,6 +2,7 @@
 //! call that changes more than it may is a panic with the case.
 
 use std::fmt::Display;
+use std::ops::Range;
 
 extern "C" {
     pub fn hv_judge_set(
@@ -42,6 +43,30 @@ extern "C" {
         len: usize,
         end: u64,
         start: *mut u64,
+    ) -> u32;
+    pub fn hv_intake_begin(intake: *mut u64);
+    pub fn hv_intake_take(
+        intake: *mut u64,
+        buffer: *mut u8,
+        room: usize,
+        fragment: *const u8,
+        len: usize,
+    ) -> u32;
+    pub fn hv_intake_close(
+        intake: *mut u64,
+        buffer: *const u8,
+        room: usize,
+        location: *mut u64,
+        length: *mut u64,
+    ) -> u32;
+    pub fn hv_intake_rebuild(
+        intake: *mut u64,
+        buffer: *const u8,
+        room: usize,
+        out: *mut u8,
+        out_room: usize,
+        location: *mut u64,
+        length: *mut u64,
     ) -> u32;
 }
 
@@ -99,6 +124,12 @@ pub type Start = [u64; 4];
 
 /// A dispatcher's answer with the state after it.
 pub type Step = (State, Result<Start, Refusal>);
+
+/// An intake: open and count.
+pub type Intake = [u64; 2];
+
+/// What a close gives: the stored length, and the bytes of the output up to it where one is lent.
+pub type Closed = (u64, Vec<u8>);
 
 // ---- The calls ----
 
@@ -230,6 +261,136 @@ fn turn(case: &dyn Display, function: Turn, room: usize, image: &[u8]) -> Result
     })
 }
 
+// ---- The intake ----
+
+/// A begun intake.
+pub fn intake_begin(case: &dyn Display) -> Intake {
+    twice(case, |filling| begin_once(case, filling))
+}
+
+/// Begins an intake whose numbers hold filling.
+pub fn begin_once(case: &dyn Display, filling: u8) -> Intake {
+    let mut numbers = Lent::<u64>::filled(2, filling);
+    // SAFETY: the two numbers are there.
+    unsafe { hv_intake_begin(numbers.pointer()) };
+    intake_of(&numbers, case)
+}
+
+/// Takes a fragment into the buffer; the intake and the buffer are as the call leaves them.
+pub fn intake_take(
+    case: &dyn Display,
+    intake: &mut Intake,
+    buffer: &mut [u8],
+    fragment: &[u8],
+) -> Result<(), Refusal> {
+    let both = |filling| {
+        let (mut after, mut taken) = (*intake, buffer.to_vec());
+        let answer = take_once(case, filling, &mut after, &mut taken, fragment);
+        (after, taken, answer)
+    };
+    let (after, taken, answer) = twice(case, both);
+    *intake = after;
+    buffer.copy_from_slice(&taken);
+    answer
+}
+
+/// Takes a fragment over one filling: the buffer may change where the fragment belongs, and on a
+/// refusal nowhere.
+pub fn take_once(
+    case: &dyn Display,
+    filling: u8,
+    intake: &mut Intake,
+    buffer: &mut [u8],
+    fragment: &[u8],
+) -> Result<(), Refusal> {
+    let mut numbers = Lent::new(&intake[..], filling);
+    let mut lent = Lent::new(buffer, filling);
+    let mut taken = Lent::new(fragment, filling);
+    // SAFETY: buffer and fragment have as many bytes as is said, and no two regions overlap.
+    let number = unsafe {
+        let (k, b, f) = (numbers.pointer(), lent.pointer(), taken.pointer());
+        hv_intake_take(k, b, buffer.len(), f, fragment.len())
+    };
+    taken.demand_kept(0, case, "the fragment");
+    let [_, count] = *intake;
+    let fits = count <= buffer.len() as u64 && fragment.len() as u64 <= buffer.len() as u64 - count;
+    demand(number != 0 || fits, case, "taken, though it does not fit");
+    let written = match number {
+        0 => count as usize..count as usize + fragment.len(),
+        _ => 0..0,
+    };
+    lent.demand_kept_beside(written, case, "the buffer");
+    *intake = intake_of(&numbers, case);
+    buffer.copy_from_slice(lent.content());
+    match number {
+        0 => Ok(()),
+        number => Err(Refusal::of_no_record(number)),
+    }
+}
+
+/// Closes an intake; with a room it rebuilds into an output of so many bytes.
+pub fn intake_close(
+    case: &dyn Display,
+    intake: &mut Intake,
+    buffer: &[u8],
+    room: Option<usize>,
+) -> Result<Closed, Refusal> {
+    let both = |filling| {
+        let mut after = *intake;
+        let answer = close_once(case, filling, &mut after, buffer, room);
+        (after, answer)
+    };
+    let (after, answer) = twice(case, both);
+    *intake = after;
+    answer
+}
+
+/// Closes an intake over one filling.
+pub fn close_once(
+    case: &dyn Display,
+    filling: u8,
+    intake: &mut Intake,
+    buffer: &[u8],
+    room: Option<usize>,
+) -> Result<Closed, Refusal> {
+    let mut numbers = Lent::new(&intake[..], filling);
+    let mut lent = Lent::new(buffer, filling);
+    let mut out = Lent::<u8>::filled(room.unwrap_or(0), filling);
+    let mut location = Lent::<u64>::filled(2, filling);
+    let mut length = Lent::<u64>::filled(1, filling);
+    // SAFETY: buffer and output have as many bytes as is said, and no two regions overlap.
+    let number = unsafe {
+        let (k, b, len) = (numbers.pointer(), lent.pointer(), buffer.len());
+        let (at, l) = (location.pointer(), length.pointer());
+        match room {
+            Some(room) => hv_intake_rebuild(k, b, len, out.pointer(), room, at, l),
+            None => hv_intake_close(k, b, len, at, l),
+        }
+    };
+    lent.demand_kept(0, case, "the buffer");
+    length.demand_kept(usize::from(number == 0), case, "the length");
+    let stored = length.content()[0];
+    let written = match room {
+        Some(room) if number == 0 => {
+            demand(stored <= room as u64, case, "the length is above the room");
+            stored as usize
+        }
+        _ => 0,
+    };
+    out.demand_kept(written, case, "the output");
+    *intake = intake_of(&numbers, case);
+    answer(number, &location, case)?;
+    Ok((stored, out.content()[..written].to_vec()))
+}
+
+/// The intake that a call left.
+fn intake_of(numbers: &Lent<u64>, case: &dyn Display) -> Intake {
+    numbers.demand_kept(2, case, "the intake");
+    numbers.content().try_into().expect("as many as were lent")
+}
+
+// ---- What is lent and told ----
+
 /// The numbers of a set in memory, filling behind the given tasks and the first n.
 fn slots(n: u32, tasks: &[[u32; 4]], filling: u8) -> Vec<u32> {
     let mut numbers = tasks.concat();
@@ -262,9 +423,12 @@ fn located<const N: usize>(number: u32, location: &Lent<u64>, case: &dyn Display
     numbers
 }
 
+/// The two fillings.
+pub const FILLINGS: [u8; 2] = [0x5A, 0xA5];
+
 /// The answer of a call that is made twice, over opposite fillings, and has to be the same.
 fn twice<A: PartialEq>(case: &dyn Display, call: impl Fn(u8) -> A) -> A {
-    let [first, second] = [0x5A, 0xA5].map(call);
+    let [first, second] = FILLINGS.map(call);
     demand(
         first == second,
         case,
@@ -344,9 +508,15 @@ impl<T: Unit> Lent<T> {
 
     /// Demands that all is as it was, but for so many units at the front of the content.
     fn demand_kept(&self, written: usize, case: &dyn Display, name: &str) {
-        let behind = self.front + written;
+        self.demand_kept_beside(0..written, case, name);
+    }
+
+    /// Demands that all is as it was, but for these units of the content.
+    fn demand_kept_beside(&self, written: Range<usize>, case: &dyn Display, name: &str) {
+        let (before, behind) = (self.front + written.start, self.front + written.end);
         let front = self.now[..self.front] == self.before[..self.front];
-        let rest = self.now[behind..] == self.before[behind..];
+        let rest = self.now[self.front..before] == self.before[self.front..before]
+            && self.now[behind..] == self.before[behind..];
         assert!(front, "written in front of {name}: {case}");
         assert!(
             rest,

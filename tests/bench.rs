@@ -1,20 +1,21 @@
 //! Measures the archive and an implementation written for speed side by side, on valid timetables
 //! with forced idles and inversions that are made from a fixed seed, on their tables, and on
 //! dispatching from these; beside them, for accepting tables, one that need not keep the archive's
-//! limits.
+//! limits; and taking fragments beside copying them.
 
 #[allow(dead_code)]
 mod archive;
 #[allow(dead_code)]
 #[path = "independent/chance.rs"]
 mod chance;
+#[allow(dead_code)]
 mod fast;
 mod making;
 
 use archive::{Check, Turn, NUMBERS};
 use chance::Chance;
 use fast::dispatcher::{self, Start, State};
-use fast::{unlimited, Refusal};
+use fast::{intake, unlimited, Refusal};
 use making::{common_multiple, image_of, made, tasks_of, timetable, SEED, SETS};
 use std::hint::black_box;
 use std::time::{Duration, Instant};
@@ -25,15 +26,25 @@ const ROOM: usize = 131_072;
 const DAMAGES: usize = 300;
 const CYCLES: usize = 3;
 
+/// The lengths of the fragments that are taken, and of the buffer that they fill.
+const FRAGMENTS: [usize; 3] = [8, 64, 4_096];
+const BUFFER: usize = 65_536;
+
 fn main() {
     let mut chance = Chance::new(SEED);
     let asked: Vec<String> = std::env::args().skip(1).collect();
     if let [call, side, set, times] = &asked[..] {
         let [set, times] = [set, times].map(|number| number.parse().expect("a number"));
+        if call == "take" {
+            return repeat_take(side, set, times);
+        }
         return repeat(call, side == "archive", set, times);
     }
     if asked == ["learnt"] {
         return learnt();
+    }
+    if asked == ["take"] {
+        return take();
     }
     println!(
         "archive/fast  call    tasks  jobs idles  inversions  bytes  archive ns   fast ns  \
@@ -389,6 +400,78 @@ impl Run<'_> {
         let image = black_box(self.image);
         let mut ends = self.ends.iter();
         ends.all(|end| go_on(&mut state, image, *end).is_ok())
+    }
+}
+
+// ---- Fragments ----
+
+/// Puts a fragment into the buffer behind what it holds; whether it was taken.
+type Take = fn(&mut intake::Intake, &mut [u8], &[u8]) -> bool;
+
+const TAKES: [(&str, Take); 3] = [
+    ("archive", archive_take),
+    ("fast", fast_take),
+    ("memcpy", copy),
+];
+
+fn archive_take(intake: &mut intake::Intake, buffer: &mut [u8], fragment: &[u8]) -> bool {
+    let (k, b, room) = (intake.as_mut_ptr(), buffer.as_mut_ptr(), buffer.len());
+    // SAFETY: buffer and fragment have as many bytes as is said, and no two regions overlap.
+    unsafe { archive::hv_intake_take(k, b, room, fragment.as_ptr(), fragment.len()) == 0 }
+}
+
+fn fast_take(intake: &mut intake::Intake, buffer: &mut [u8], fragment: &[u8]) -> bool {
+    intake::take(intake, buffer, fragment).is_ok()
+}
+
+/// Copies without a test.
+#[inline(never)]
+fn copy([_, count]: &mut intake::Intake, buffer: &mut [u8], fragment: &[u8]) -> bool {
+    // SAFETY: the fragments fill the buffer, and it is not one of them.
+    unsafe {
+        let to = buffer.as_mut_ptr().add(*count as usize);
+        to.copy_from_nonoverlapping(fragment.as_ptr(), fragment.len());
+    }
+    *count += fragment.len() as u64;
+    true
+}
+
+/// Fills the buffer with a fragment again and again.
+fn fill(take: Take, buffer: &mut [u8], fragment: &[u8]) -> bool {
+    let mut intake = intake::begin();
+    let take = black_box(take);
+    let mut calls = 0..buffer.len() / fragment.len();
+    calls.all(|_| take(&mut intake, buffer, fragment)) && intake[1] == buffer.len() as u64
+}
+
+/// The times of taking a fragment.
+fn take() {
+    println!("archive/memcpy  bytes  archive ns   fast ns  memcpy ns");
+    for bytes in FRAGMENTS {
+        let fragment: Vec<u8> = (0..bytes).map(|byte| byte as u8).collect();
+        let fills = TAKES.map(|(_, take)| -> Call {
+            let (mut buffer, fragment) = (vec![0; BUFFER], &fragment);
+            Box::new(move || fill(take, black_box(&mut buffer), black_box(fragment)))
+        });
+        let calls = (BUFFER / bytes) as f64;
+        let times: Vec<f64> = side_by_side(fills.into())
+            .into_iter()
+            .map(|time| time / calls)
+            .collect();
+        let (archive, fast, memcpy) = (times[0], times[1], times[2]);
+        let ratio = archive / memcpy;
+        println!("{ratio:>14.2}  {bytes:>5}  {archive:>10.2}  {fast:>8.2}  {memcpy:>9.2}");
+    }
+}
+
+/// Fills the buffer so many times by one side, with fragments of so many bytes: for counting what is executed.
+fn repeat_take(side: &str, bytes: usize, times: usize) {
+    let known = TAKES.into_iter().find(|(name, _)| *name == side);
+    let (_, take) = known.expect("there is such a side");
+    let (mut buffer, fragment) = (vec![0; BUFFER], vec![1; bytes]);
+    for _ in 0..times {
+        let filled = fill(take, black_box(&mut buffer), black_box(&fragment));
+        assert!(filled, "a fragment that fits is refused");
     }
 }
 

@@ -7,10 +7,12 @@
 # machine only adds to a time. HV_ARCHIVE names another archive than the repository's own.
 # With `sets` as its argument it times judging 4,000 candidate sets of each kind beside two plain ways,
 # linked and run alike. With `learnt` as its argument it times deriving over one image and over many in
-# turn, linked once.
+# turn, linked once. With `take` it times taking fragments of 8, 64 and 4,096 bytes until a buffer of 65,536
+# is full, beside the same written for speed and beside memcpy, linked once.
 # With `instructions` as its argument it counts those executed instead, into which neither the processor
 # nor what else it does comes: an emulator (Debian's qemu-user) runs the program and a plugin counts. With
-# `instructions sets` it counts those of judging a candidate set, the mean over 400.
+# `instructions sets` it counts those of judging a candidate set, the mean over 400, and with `instructions
+# take` those of taking one fragment, the mean over a buffer.
 set -eu
 
 tests=$(cd "$(dirname "$0")" && pwd)
@@ -76,6 +78,17 @@ if test "${1:-}" = instructions; then
         exit
     fi
     compile bench
+    if test "${2:-}" = take; then
+        echo "archive/memcpy  bytes  archive     fast   memcpy"
+        for bytes in 8 64 4096; do
+            for side in archive fast memcpy; do
+                executed bench take "$side" "$bytes"
+            done | paste -s | awk -v bytes="$bytes" '
+                NF != 3 { exit 1 }
+                { calls = 65536 / bytes; printf "%14.2f  %5d  %7.1f  %7.1f  %7.1f\n", $1 / $3, bytes, $1 / calls, $2 / calls, $3 / calls }'
+        done
+        exit
+    fi
     echo "archive/fast  call     tasks  jobs     archive        fast"
     for shape in "0 2 256" "1 2 1024" "2 2 4096" "3 16 256" "4 16 1024" "5 16 4096"; do
         # Unquoted: the set's number among the program's, its tasks and its jobs.
@@ -97,10 +110,10 @@ if test -n "${HV_NATIVE:-}" && test "$(uname -m)" != x86_64; then
     branches=
 fi
 
-if test "${1:-}" = learnt; then
+if test "${1:-}" = learnt || test "${1:-}" = take; then
     # Unquoted: one word for each of the compiler's.
     compile bench $branches
-    run "$built/bench" learnt
+    run "$built/bench" "$1"
     exit
 fi
 

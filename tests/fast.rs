@@ -1,8 +1,9 @@
-//! Checking and deriving, checking tables, rebuilding and dispatching, written for speed under the
+//! Checking and deriving, checking tables, rebuilding, taking in and dispatching, written for speed under the
 //! archive's limits: no heap, records read in place, no more memory than a few numbers for each task, safe
 //! code alone.
 
 pub mod dispatcher;
+pub mod intake;
 pub mod unlimited;
 
 #[derive(Clone, Copy, PartialEq, Eq, Debug)]

@@ -1,25 +1,31 @@
 //! Asks the stored cases on standard input, one a line, of the implementation written for speed and of
 //! the archive, and tells where the two, or either and the stored answer, differ. It fails too where an
-//! operation, a success or a refusal of one, or one of document 01's numbers never came.
+//! operation, a success or a refusal of one of its calls, or one of document 01's numbers never came.
 
 mod archive;
 mod fast;
 #[allow(dead_code)]
 mod written;
 
-use archive::{Refusal, State, Step, NUMBERS};
-use fast::{dispatcher, unlimited};
+use archive::{Closed, Intake, Refusal, State, Step, NUMBERS};
+use fast::{dispatcher, intake, unlimited};
 use std::collections::BTreeMap;
 use std::io::{stdin, BufRead};
 use std::process::ExitCode;
 use written::{
-    archive_answer, bytes_from, check_answer, go_answer, operation, run_answer, step_text,
-    turn_answer,
+    archive_answer, bytes_from, calls, check_answer, go_answer, intake_answer, operation,
+    run_answer, step_text, turn_answer, Calls,
 };
 
 /// The operations that both have; a run is a beginning and going on.
-const BOTH: [&str; 7] = [
-    "check1", "derive", "check2", "rebuild", "begin", "go", "run",
+const BOTH: [&str; 8] = [
+    "check1", "derive", "check2", "rebuild", "begin", "go", "run", "intake",
+];
+
+/// Their calls.
+const CALLS: [&str; 10] = [
+    "check1", "derive", "check2", "rebuild", "begin", "go", "run", "intake-f", "intake-c",
+    "intake-r",
 ];
 const LAST_NUMBER: u32 = 25;
 const FILLING: u8 = 0x5A;
@@ -42,8 +48,9 @@ fn main() -> ExitCode {
             differ += 1;
             println!("{line}\n  archive: {archive}\n  fast: {fast}");
         }
-        let key = (operation(case).to_string(), number_of(&fast));
-        *came.entry(key).or_default() += 1;
+        for (name, line) in calls(case, &fast) {
+            *came.entry((name.to_string(), number_of(line))).or_default() += 1;
+        }
     }
     let missing = missing(&came);
     for line in &missing {
@@ -63,7 +70,7 @@ fn number_of(answer: &str) -> u32 {
 /// What never came.
 fn missing(came: &BTreeMap<(String, u32), u64>) -> Vec<String> {
     let mut missing = Vec::new();
-    for name in BOTH {
+    for name in CALLS {
         let of_it = |refused: bool| {
             came.keys()
                 .any(|(other, number)| other == name && refused == (*number > 0))
@@ -105,6 +112,7 @@ fn fast_answer(case: &str) -> Option<String> {
         ["begin", image] => bytes_from(image).map(|image| step_text(&begin(&image))),
         ["go", image, state, end] => go_answer(image, state, end, go_on),
         ["run", steps, image] => run_answer(steps, image, begin, go_on),
+        ["intake", length, room, ref tokens @ ..] => intake_answer(&Fast, length, room, tokens),
         _ => None,
     }
 }
@@ -142,4 +150,31 @@ fn go_on(image: &[u8], before: &State, end: u64) -> Step {
     let mut state = *before;
     let answer = dispatcher::go_on(&mut state, image, end);
     (state, answer.map_err(Refusal::of_no_record))
+}
+
+/// The calls of the intake.
+struct Fast;
+
+impl Calls for Fast {
+    fn begin(&self) -> Intake {
+        intake::begin()
+    }
+
+    fn take(&self, taken: &mut Intake, buffer: &mut [u8], fragment: &[u8]) -> Result<(), Refusal> {
+        told(intake::take(taken, buffer, fragment))
+    }
+
+    fn close(
+        &self,
+        taken: &mut Intake,
+        buffer: &[u8],
+        room: Option<usize>,
+    ) -> Result<Closed, Refusal> {
+        let Some(room) = room else {
+            let length = told(intake::close(taken, buffer))?;
+            return Ok((length as u64, Vec::new()));
+        };
+        let out = turned(room, |out| intake::close_rebuilding(taken, buffer, out))?;
+        Ok((out.len() as u64, out))
+    }
 }

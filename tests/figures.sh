@@ -235,7 +235,7 @@ stack_row() {
     awk -v target="$1" "$grouped"'
         { deepest[$1] = $2 }
         END {
-            count = split("hv_begin hv_go_on hv_check_tables hv_rebuild hv_derive hv_check_timetable hv_judge_set", names, " ")
+            count = split("hv_begin hv_go_on hv_intake_take hv_intake_close hv_check_tables hv_intake_rebuild hv_rebuild hv_derive hv_check_timetable hv_judge_set", names, " ")
             row = "| " target " |"
             for (i = 1; i <= count; i++) {
                 if (!(names[i] in deepest)) exit 1
@@ -286,7 +286,7 @@ tables() {
         stack_row "$measured" >>"$built/stack.rows"
     done
     table bytes "target|text|of it for \`hv_begin\` and \`hv_go_on\`|needs"
-    table stack "target|\`hv_begin\`|\`hv_go_on\`|\`hv_check_tables\`|\`hv_rebuild\`|\`hv_derive\`|\`hv_check_timetable\`|\`hv_judge_set\`"
+    table stack "target|\`hv_begin\`|\`hv_go_on\`|\`hv_intake_take\`|\`hv_intake_close\`|\`hv_check_tables\`|\`hv_intake_rebuild\`|\`hv_rebuild\`|\`hv_derive\`|\`hv_check_timetable\`|\`hv_judge_set\`"
     table going-on "target|2 tasks|7 tasks|16 tasks|memory: calls, bytes|library: calls, instructions"
     table beginning "target|3 tasks, 7 jobs|2, 256|2, 1,024|2, 4,096|16, 256|16, 1,024|16, 4,096|memory: calls, bytes|library: calls, instructions"
 }

@@ -4,6 +4,7 @@
 //! with the samples and with each other (`refused/pages.rs`). `refused ROOT questions` prints the
 //! same calls as cases without an answer, in the written form of `tests/README.md`.
 
+#[allow(dead_code)]
 mod archive;
 #[allow(dead_code)]
 #[path = "independent/dispatcher.rs"]

@@ -26,6 +26,10 @@ awk '
         limit["hv_rebuild"] = 4096
         limit["hv_begin"] = 4096
         limit["hv_go_on"] = 1536
+        limit["hv_intake_begin"] = 64
+        limit["hv_intake_take"] = 64
+        limit["hv_intake_close"] = 3072
+        limit["hv_intake_rebuild"] = 4096
         outside["memcmp"]; outside["memcpy"]; outside["memmove"]; outside["memset"]
     }
 

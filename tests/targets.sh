@@ -110,7 +110,7 @@ awk '
     { split($0, part, " => "); came[$1, part[2] ~ /refused/ ? "refused" : "taken"] }
     match($0, /refused [0-9]+/) { came[substr($0, RSTART + 8, RLENGTH - 8)] }
     END {
-        count = split("set check1 check2 derive rebuild begin go run", operation, " ")
+        count = split("set check1 check2 derive rebuild begin go run intake", operation, " ")
         for (i = 1; i <= count; i++) {
             if (!((operation[i], "taken") in came)) { print "no case of " operation[i] " that is taken"; missing = 1 }
             if (!((operation[i], "refused") in came)) { print "no case of " operation[i] " that is refused"; missing = 1 }

@@ -1,18 +1,39 @@
 //! Cases in their written form, `OP ARGUMENTS [=> ANSWER]`, and what the archive answers to them.
 
 use crate::archive::{
-    begin, check_tables, check_timetable, derive, go_on, judge_set, rebuild, Refusal, Start, State,
-    Step, SLOTS, TASKS, TASK_NUMBERS,
+    begin, check_tables, check_timetable, derive, go_on, intake_begin, intake_close, intake_take,
+    judge_set, rebuild, Closed, Intake, Refusal, Start, State, Step, SLOTS, TASKS, TASK_NUMBERS,
 };
 
 /// The operations that the archive has.
-pub const OPERATIONS: [&str; 8] = [
-    "set", "check1", "check2", "derive", "rebuild", "begin", "go", "run",
+pub const OPERATIONS: [&str; 9] = [
+    "set", "check1", "check2", "derive", "rebuild", "begin", "go", "run", "intake",
 ];
+
+/// What the buffer of an intake holds at first.
+const DIRT: u8 = 0xA5;
 
 /// The operation of a case.
 pub fn operation(case: &str) -> &str {
     case.split_whitespace().next().unwrap_or("")
+}
+
+/// The calls of a case, by name, each with what it told: one, but for an intake every fragment and every
+/// close.
+pub fn calls<'a>(case: &'a str, answer: &'a str) -> Vec<(&'a str, &'a str)> {
+    if operation(case) != "intake" {
+        return vec![(operation(case), answer)];
+    }
+    let name = |token: &str| match token.as_bytes().first() {
+        Some(b'f') => Some("intake-f"),
+        Some(b'c') => Some("intake-c"),
+        Some(b'r') => Some("intake-r"),
+        _ => None,
+    };
+    let tokens = case.split_whitespace().skip(3).map(name);
+    let told = tokens.zip(answer.split('|'));
+    told.filter_map(|(name, line)| Some((name?, line)))
+        .collect()
 }
 
 /// The archive's answer to a case; an error where it is none that the archive can be asked.
@@ -38,6 +59,9 @@ pub fn archive_answer(case: &str) -> Result<String, String> {
             |image| begin(&case, image),
             |image, state, end| go_on(&case, image, state, end),
         ),
+        ["intake", length, room, ref tokens @ ..] => {
+            intake_answer(&Guarded { case }, length, room, tokens)
+        }
         _ if OPERATIONS.contains(&operation(case)) => None,
         _ => {
             return Err(format!(
@@ -119,6 +143,103 @@ pub fn run_answer(
         told.push(answer_text(&step.1));
     }
     Some(told.join("|"))
+}
+
+/// The calls of an intake.
+pub trait Calls {
+    fn begin(&self) -> Intake;
+    fn take(&self, intake: &mut Intake, buffer: &mut [u8], fragment: &[u8]) -> Result<(), Refusal>;
+    /// Closes; with a room it rebuilds.
+    fn close(
+        &self,
+        intake: &mut Intake,
+        buffer: &[u8],
+        room: Option<usize>,
+    ) -> Result<Closed, Refusal>;
+}
+
+/// Those of the archive, for a case.
+struct Guarded<'a> {
+    case: &'a str,
+}
+
+impl Calls for Guarded<'_> {
+    fn begin(&self) -> Intake {
+        intake_begin(&self.case)
+    }
+
+    fn take(&self, intake: &mut Intake, buffer: &mut [u8], fragment: &[u8]) -> Result<(), Refusal> {
+        intake_take(&self.case, intake, buffer, fragment)
+    }
+
+    fn close(
+        &self,
+        intake: &mut Intake,
+        buffer: &[u8],
+        room: Option<usize>,
+    ) -> Result<Closed, Refusal> {
+        intake_close(&self.case, intake, buffer, room)
+    }
+}
+
+/// The answers to an intake's tokens, each with the intake's numbers after it, and the buffer.
+pub fn intake_answer(
+    calls: &impl Calls,
+    length: &str,
+    room: &str,
+    tokens: &[&str],
+) -> Option<String> {
+    let mut buffer = vec![DIRT; length.parse().ok()?];
+    let room = room.parse().ok()?;
+    let mut intake = calls.begin();
+    let mut told = Vec::new();
+    for token in tokens {
+        let line = token_answer(calls, &mut intake, &mut buffer, room, token)?;
+        let [open, count] = intake;
+        told.push(format!("{line} [{open},{count}]"));
+    }
+    told.push(format!("buffer {}", text_of(&buffer)));
+    Some(told.join("|"))
+}
+
+/// The answer to one token.
+fn token_answer(
+    calls: &impl Calls,
+    intake: &mut Intake,
+    buffer: &mut [u8],
+    room: usize,
+    token: &str,
+) -> Option<String> {
+    match (token.get(..1)?, &token[1..]) {
+        ("b", "") => {
+            *intake = calls.begin();
+            Some("begun".to_string())
+        }
+        ("o", open) => {
+            intake[0] = open.parse().ok()?;
+            Some("forged".to_string())
+        }
+        ("n", count) => {
+            intake[1] = count.parse().ok()?;
+            Some("forged".to_string())
+        }
+        ("f", fragment) => {
+            let taken = calls.take(intake, buffer, &bytes_from(fragment)?);
+            Some(taken.map_or_else(refusal_text, |()| "taken".to_string()))
+        }
+        ("c", "") => Some(closed_text(calls.close(intake, buffer, None), false)),
+        ("r", "") => Some(closed_text(calls.close(intake, buffer, Some(room)), true)),
+        _ => None,
+    }
+}
+
+/// What a close told; the output where it rebuilt.
+pub fn closed_text(answer: Result<Closed, Refusal>, rebuilt: bool) -> String {
+    match answer {
+        Ok((length, out)) if rebuilt => format!("ok {length} {}", text_of(&out)),
+        Ok((length, _)) => format!("ok {length}"),
+        Err(refusal) => refusal_text(refusal),
+    }
 }
 
 /// A dispatcher's answer with the state after it; a start is named as such.

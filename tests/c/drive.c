@@ -1,11 +1,12 @@
 /* A drive's main loop over the archive, through its header alone: an example of use that is also a test. Document 01's P2 is dispatched for three cycles,
- * whose starts are known, with jobs that end early, on time and at last late. Then what each refusal leaves, and that no call writes beside its record. */
+ * whose starts are known, with jobs that end early, on time and at last late. Then what each refusal leaves, and that no call writes beside its record. At last
+ * the image comes in fragments: cut in many ways, too long, lost, come twice, into an intake with any numbers. */
 #include "hervantyu.h"
 
 #include <stdio.h>
 #include <string.h>
 
-enum { JOBS = 7, CYCLES = 3, HYPERPERIOD = 20, LAST = JOBS * CYCLES - 1, GUARD = 8 };
+enum { JOBS = 7, CYCLES = 3, HYPERPERIOD = 20, LAST = JOBS * CYCLES - 1, GUARD = 8, ROOM = 256 };
 
 static const uint8_t image[91] = {
     0x54, 0x53, 0x01, 0x02, 0x03,
@@ -242,15 +243,284 @@ static void last_cycle(struct drive *drive)
     check(drive->start[2] == cycle && drive->start[3] == cycle * HYPERPERIOD, "the last cycle begins elsewhere");
 }
 
+/* ---- The intake ---- */
+
+/* The timetable image of the image. */
+static const uint8_t timetable_image[114] = {
+    0x54, 0x53, 0x01, 0x01, 0x03,
+    0x54, 0x4B, 0x00, 0x00, 0x00, 0x00, 0x00, 0x00, 0x00, 0x01, 0x00, 0x00, 0x00, 0x05, 0x00, 0x00, 0x00, 0x05,
+    0x54, 0x4B, 0x00, 0x00, 0x00, 0x00, 0x00, 0x00, 0x00, 0x02, 0x00, 0x00, 0x00, 0x0A, 0x00, 0x00, 0x00, 0x0A,
+    0x54, 0x4B, 0x00, 0x00, 0x00, 0x00, 0x00, 0x00, 0x00, 0x06, 0x00, 0x00, 0x00, 0x14, 0x00, 0x00, 0x00, 0x14,
+    0x53, 0x4C, 0x00, 0x00, 0x00, 0x00, 0x00, 0x53, 0x4C, 0x02, 0x00, 0x00, 0x00, 0x01, 0x53, 0x4C, 0x01, 0x00, 0x00, 0x00, 0x07,
+    0x53, 0x4C, 0x00, 0x00, 0x00, 0x00, 0x09, 0x53, 0x4C, 0x00, 0x00, 0x00, 0x00, 0x0C, 0x53, 0x4C, 0x01, 0x00, 0x00, 0x00, 0x0D,
+    0x53, 0x4C, 0x00, 0x00, 0x00, 0x00, 0x0F, 0x45, 0x4E, 0x00, 0x00, 0x00, 0x0B};
+
+/* An intake and all that its calls are lent, between guards: no byte of it is without a meaning, so that after a call all of it can be compared. */
+struct gateway {
+    uint64_t before;
+    struct hv_intake intake;
+    uint64_t between, where[2], length, behind;
+    uint8_t front[GUARD], buffer[ROOM], middle[GUARD], out[ROOM], back[GUARD];
+};
+
+static const struct hv_intake shut = {0, 0};
+
+static int same(const struct gateway *now, const struct gateway *expected)
+{
+    return memcmp(now, expected, sizeof *now) == 0;
+}
+
+static void expect_opened(struct gateway *gateway)
+{
+    struct gateway expected = *gateway;
+    expected.intake = (struct hv_intake){1, 0};
+    hv_intake_begin(&gateway->intake);
+    check(same(gateway, &expected), "beginning an intake leaves other numbers, or writes beside them");
+}
+
+static void expect_taken(struct gateway *gateway, uint64_t room, const uint8_t *fragment, uint64_t length)
+{
+    struct gateway expected = *gateway;
+    memcpy(expected.buffer + expected.intake.count, fragment, length);
+    expected.intake.count += length;
+    check(hv_intake_take(&gateway->intake, gateway->buffer, room, fragment, length) == 0, "a fragment that fits is refused");
+    check(same(gateway, &expected), "a fragment that fits leaves other bytes or numbers");
+}
+
+static void expect_not_taken(struct gateway *gateway, uint64_t room, const uint8_t *fragment, uint64_t length)
+{
+    struct gateway expected = *gateway;
+    expected.intake = shut;
+    check(hv_intake_take(&gateway->intake, gateway->buffer, room, fragment, length) == 20, "a fragment gives another number than 20");
+    check(same(gateway, &expected), "a fragment that is not taken leaves other bytes or numbers");
+}
+
+/* The close that judges. Where nothing is refused it tells how much was taken. */
+static void expect_closed(struct gateway *gateway, uint64_t room, uint32_t number, uint64_t place, uint64_t offset)
+{
+    struct gateway expected = *gateway;
+    if (number == 0)
+        expected.length = expected.intake.count;
+    expected.where[0] = place;
+    expected.where[1] = offset;
+    expected.intake = shut;
+    check(hv_intake_close(&gateway->intake, gateway->buffer, room, gateway->where, &gateway->length) == number, "a close gives another number");
+    check(same(gateway, &expected), "a close leaves other bytes or numbers");
+}
+
+/* The close that rebuilds. Where nothing is refused it writes the timetable image. */
+static void expect_rebuilt(struct gateway *gateway, uint64_t room, uint64_t out_room, uint32_t number, uint64_t place, uint64_t offset)
+{
+    struct gateway expected = *gateway;
+    if (number == 0) {
+        expected.length = sizeof timetable_image;
+        memcpy(expected.out, timetable_image, sizeof timetable_image);
+    }
+    expected.where[0] = place;
+    expected.where[1] = offset;
+    expected.intake = shut;
+    check(hv_intake_rebuild(&gateway->intake, gateway->buffer, room, gateway->out, out_room, gateway->where, &gateway->length) == number,
+          "a close that rebuilds gives another number");
+    check(same(gateway, &expected), "a close that rebuilds leaves other bytes or numbers");
+}
+
+/* The image in fragments of so many bytes, the last one shorter, with one of length 0 in front of each and behind the last. */
+static void expect_all_taken(struct gateway *gateway, uint64_t room, size_t size)
+{
+    expect_opened(gateway);
+    for (size_t at = 0; at < sizeof image; at += size) {
+        expect_taken(gateway, room, image + at, 0);
+        expect_taken(gateway, room, image + at, at + size < sizeof image ? size : sizeof image - at);
+    }
+    expect_taken(gateway, room, image, 0);
+}
+
+/* Every call on an intake that is shut gives 20. */
+static void expect_shut(struct gateway *gateway)
+{
+    struct hv_intake before = gateway->intake;
+    expect_not_taken(gateway, ROOM, image, 0);
+    gateway->intake = before;
+    expect_not_taken(gateway, ROOM, image, 1);
+    gateway->intake = before;
+    expect_closed(gateway, ROOM, 20, 0, 0);
+    gateway->intake = before;
+    expect_rebuilt(gateway, ROOM, ROOM, 20, 0, 0);
+}
+
+/* However it is cut, in a buffer that it just fills and in a longer one, the image is accepted, dispatched from the buffer, and rebuilt. */
+static void cuts(struct gateway *gateway)
+{
+    static const size_t sizes[] = {1, 2, 7, 8, 64, 90, sizeof image};
+    for (size_t i = 0; i < sizeof sizes / sizeof *sizes; i++) {
+        struct drive drive = new_drive(0);
+        expect_all_taken(gateway, sizeof image, sizes[i]);
+        expect_closed(gateway, sizeof image, 0, 0, 0);
+        started = 0;
+        check(main_loop(&drive, gateway->buffer, gateway->length) == 22, "the main loop over the buffer ends with another number");
+        check(started == LAST + 1, "the main loop over the buffer runs another number of jobs");
+        expect_shut(gateway);
+        expect_all_taken(gateway, ROOM, sizes[i]);
+        expect_rebuilt(gateway, ROOM, sizeof timetable_image, 0, 0, 0);
+        expect_shut(gateway);
+    }
+}
+
+/* A buffer that is a byte too short; one that is full, and takes nothing more but fragments of length 0; and what the other calls of one that was shut give. */
+static void too_long(struct gateway *gateway)
+{
+    expect_opened(gateway);
+    expect_not_taken(gateway, sizeof image - 1, image, sizeof image);
+    expect_shut(gateway);
+    expect_opened(gateway);
+    expect_taken(gateway, sizeof image - 1, image, sizeof image - 1);
+    expect_taken(gateway, sizeof image - 1, image, 0);
+    expect_not_taken(gateway, sizeof image - 1, image + sizeof image - 1, 1);
+    expect_shut(gateway);
+    expect_opened(gateway);
+    expect_taken(gateway, 0, image, 0);
+    expect_not_taken(gateway, 0, image, 1);
+    expect_all_taken(gateway, sizeof image, 8);
+    expect_not_taken(gateway, sizeof image, image, 1);
+    expect_all_taken(gateway, ROOM, 8);
+    expect_rebuilt(gateway, ROOM, sizeof timetable_image - 1, 20, 0, 0);
+    expect_shut(gateway);
+}
+
+/* A count above the room is 20 whatever the call, also where the count and a fragment together come round to a small number. */
+static void count_above_room(struct gateway *gateway)
+{
+    static const uint64_t counts[] = {sizeof image + 1, UINT64_C(1) << 32, (UINT64_C(1) << 32) + 1, UINT64_MAX - 1, UINT64_MAX};
+    for (size_t i = 0; i < sizeof counts / sizeof *counts; i++) {
+        struct hv_intake forged = {1, counts[i]};
+        gateway->intake = forged;
+        expect_not_taken(gateway, sizeof image, image, 1);
+        gateway->intake = forged;
+        expect_not_taken(gateway, sizeof image, image, 0);
+        gateway->intake = forged;
+        expect_not_taken(gateway, sizeof image, image, sizeof image);
+        gateway->intake = forged;
+        expect_closed(gateway, sizeof image, 20, 0, 0);
+        gateway->intake = forged;
+        expect_rebuilt(gateway, sizeof image, ROOM, 20, 0, 0);
+        expect_shut(gateway);
+    }
+}
+
+/* Open is 1 and nothing else, with the whole image in the buffer. */
+static void other_than_open(struct gateway *gateway)
+{
+    static const uint64_t opens[] = {0, 2, 255, UINT64_C(1) << 32, (UINT64_C(1) << 32) + 1, UINT64_C(1) << 63, UINT64_MAX};
+    expect_all_taken(gateway, ROOM, sizeof image);
+    for (size_t i = 0; i < sizeof opens / sizeof *opens; i++) {
+        gateway->intake = (struct hv_intake){opens[i], sizeof image};
+        expect_shut(gateway);
+    }
+    gateway->intake = (struct hv_intake){1, sizeof image};
+    expect_closed(gateway, ROOM, 0, 0, 0);
+}
+
+/* No bytes, an image that ends too soon, and one that idles too long (P5): the closing refusal is that of the image, whatever the output's length. */
+static void refused_images(struct gateway *gateway)
+{
+    static const uint8_t five = 5;
+    for (int i = 0; i < 2; i++) {
+        expect_opened(gateway);
+        expect_closed(gateway, i * ROOM, 1, 0, 0);
+        expect_opened(gateway);
+        expect_rebuilt(gateway, i * ROOM, i * ROOM, 1, 0, 0);
+        expect_opened(gateway);
+        expect_taken(gateway, ROOM, image, 85);
+        expect_closed(gateway, ROOM, 1, 7, 85);
+        expect_opened(gateway);
+        expect_taken(gateway, ROOM, image, 66);
+        expect_taken(gateway, ROOM, &five, 1);
+        expect_taken(gateway, ROOM, image + 67, sizeof image - 67);
+        expect_rebuilt(gateway, ROOM, i * ROOM, 18, 4, 0);
+    }
+}
+
+/* The buffer lies elsewhere and has another length at each call; the two numbers go with it. A close over less than was taken is 20. */
+static void moved(struct gateway *gateway)
+{
+    struct gateway other = *gateway;
+    expect_opened(gateway);
+    expect_taken(gateway, 50, image, 50);
+    memcpy(other.buffer, gateway->buffer, 50);
+    other.intake = gateway->intake;
+    expect_taken(&other, ROOM, image + 50, sizeof image - 50);
+    memcpy(gateway->buffer, other.buffer, sizeof image);
+    gateway->intake = other.intake;
+    expect_closed(gateway, sizeof image, 0, 0, 0);
+    gateway->intake = other.intake;
+    expect_closed(gateway, sizeof image - 1, 20, 0, 0);
+    expect_rebuilt(&other, sizeof image, sizeof timetable_image, 0, 0, 0);
+}
+
+/* Takes in the front of an image up to one byte and then the rest from another byte on; gives what the close does. */
+static uint32_t closed(struct gateway *gateway, const uint8_t *bytes, size_t length, size_t to, size_t from)
+{
+    hv_intake_begin(&gateway->intake);
+    check(hv_intake_take(&gateway->intake, gateway->buffer, ROOM, bytes, to) == 0, "the front of an image is refused");
+    check(hv_intake_take(&gateway->intake, gateway->buffer, ROOM, bytes + from, length - from) == 0, "the rest of an image is refused");
+    return hv_intake_close(&gateway->intake, gateway->buffer, ROOM, gateway->where, &gateway->length);
+}
+
+/* Whatever stretch of an image is lost, or comes twice, the close refuses the rest; here of P2, and of an image with numbers that look like marks: two tasks of
+ * period and deadline 54 53, of which the second one starts first, both released at 0, after an idle of 49 44. */
+static void lost_and_twice(struct gateway *gateway)
+{
+    static const uint8_t marks[64] = {0x54, 0x53, 0x01, 0x02, 0x02,
+                                      0x54, 0x4B, 0x00, 0x00, 0x00, 0x00, 0x00, 0x00, 0x00, 0x01, 0x00, 0x00, 0x54, 0x53, 0x00, 0x00, 0x54, 0x53,
+                                      0x54, 0x4B, 0x00, 0x00, 0x00, 0x00, 0x00, 0x00, 0x00, 0x02, 0x00, 0x00, 0x54, 0x53, 0x00, 0x00, 0x54, 0x53,
+                                      0x49, 0x44, 0x00, 0x00, 0x00, 0x00, 0x49, 0x44,
+                                      0x50, 0x56, 0x01, 0x00, 0x00, 0x00, 0x00, 0x49, 0x44,
+                                      0x45, 0x4E, 0x00, 0x00, 0x00, 0x05};
+    for (int i = 0; i < 2; i++) {
+        const uint8_t *bytes = i ? marks : image;
+        size_t length = i ? sizeof marks : sizeof image;
+        for (size_t to = 0; to <= length; to++) {
+            for (size_t from = 0; from <= length; from++) {
+                uint32_t number = closed(gateway, bytes, length, to, from);
+                check((number == 0) == (to == from), "an image with a stretch lost or twice is accepted, or a whole one refused");
+                check(i == 1 || number <= 5 || number == 10, "P2 with a stretch lost or twice gives another number than 1 to 5 and 10");
+            }
+        }
+    }
+}
+
+/* What no close can find: fragments in another order that still are an image. Two tasks of one period, each in a fragment of its own, are exchanged. */
+static void exchanged(struct gateway *gateway)
+{
+    static const uint8_t head[5] = {0x54, 0x53, 0x01, 0x02, 0x02}, end[6] = {0x45, 0x4E, 0x00, 0x00, 0x00, 0x03};
+    static const uint8_t tasks[2][18] = {{0x54, 0x4B, 0x00, 0x00, 0x00, 0x00, 0x00, 0x00, 0x00, 0x01, 0x00, 0x00, 0x00, 0x0A, 0x00, 0x00, 0x00, 0x0A},
+                                         {0x54, 0x4B, 0x00, 0x00, 0x00, 0x00, 0x00, 0x00, 0x00, 0x02, 0x00, 0x00, 0x00, 0x0A, 0x00, 0x00, 0x00, 0x0A}};
+    for (int first = 0; first < 2; first++) {
+        expect_opened(gateway);
+        expect_taken(gateway, ROOM, head, sizeof head);
+        expect_taken(gateway, ROOM, tasks[first], sizeof tasks[first]);
+        expect_taken(gateway, ROOM, tasks[1 - first], sizeof tasks[1 - first]);
+        expect_taken(gateway, ROOM, end, sizeof end);
+        expect_closed(gateway, ROOM, 0, 0, 0);
+    }
+}
+
 int main(void)
 {
     static const int fillings[2] = {0x5A, 0xA5};
     static void (*const tests[])(struct drive *) = {three_cycles, end_before_start, trial, impossible, slots_above, last_cycle};
+    static void (*const intake_tests[])(struct gateway *) = {cuts,           too_long, count_above_room, other_than_open,
+                                                             refused_images, moved,    lost_and_twice,   exchanged};
     for (size_t i = 0; i < 2; i++) {
         for (size_t j = 0; j < sizeof tests / sizeof *tests; j++) {
             struct drive drive = new_drive(fillings[i]);
             tests[j](&drive);
             check(guarded(&drive, fillings[i]), "a call writes beside the record or the start");
+        }
+        for (size_t j = 0; j < sizeof intake_tests / sizeof *intake_tests; j++) {
+            struct gateway gateway;
+            memset(&gateway, fillings[i], sizeof gateway);
+            intake_tests[j](&gateway);
         }
     }
     printf("%u checks, %u failed\n", checks, failed);

@@ -1,9 +1,11 @@
 /* The program of docs/INTEGRATION.md: all C of that page stands here, and tests/refused.sh builds and runs it.
  *
- *     manual IMAGE NEW_IMAGE JOBS
+ *     manual IMAGE NEW_IMAGE JOBS [SENDING...]
  *
- * dispatches IMAGE for so many jobs and writes task, job, start and end of each in the drive's own time. When it has begun, NEW_IMAGE is tried in a second
- * record; where it is accepted it takes over at the next cycle, where it is refused that is written and nothing else changes. */
+ * dispatches IMAGE for so many jobs and writes task, job, start and end of each in the drive's own time. When it has begun, NEW_IMAGE comes over a bus and is
+ * tried in a second record; where it is accepted it takes over at the next cycle, where it is refused that is written and nothing else changes. Each SENDING is
+ * one try, until one is accepted: LENGTH[-LOST][+TWICE][/ROOM], the length of a fragment, the index from 0 of one that is lost and of one that comes twice, and
+ * the length of the drive's buffer. Without any the image comes once, in one fragment. */
 #include "hervantyu.h"
 
 #include <stdio.h>
@@ -29,6 +31,34 @@ static void wait_until(uint64_t time)
 static void work(uint32_t declared)
 {
     ticks += jobs_to_run % 2 ? declared / 2 : declared;
+}
+
+/* ---- Stand-in for the bus: a gateway sends an image in fragments ---- */
+
+static struct {
+    const uint8_t *image;
+    uint64_t length, sent, fragment; /* how long the image is, how much of it was sent, how long a fragment is */
+    uint64_t index, lost, twice;     /* which fragment comes next, is lost, comes twice */
+} bus;
+
+/* Waits for the next fragment; 0 where the gateway says that the image is over. */
+static int next_fragment(const uint8_t **fragment, uint64_t *size)
+{
+    if (bus.index == bus.lost) {
+        bus.index++;
+        bus.sent += bus.fragment;
+    }
+    if (bus.sent >= bus.length)
+        return 0;
+    *fragment = bus.image + bus.sent;
+    *size = bus.length - bus.sent < bus.fragment ? bus.length - bus.sent : bus.fragment;
+    if (bus.index == bus.twice) {
+        bus.twice = UINT64_MAX;
+        return 1;
+    }
+    bus.index++;
+    bus.sent += *size;
+    return 1;
 }
 
 /* ---- A plan: an image and the record that goes with it ---- */
@@ -83,9 +113,25 @@ static uint32_t main_loop(struct plan *running, struct plan *waiting)
     return 0;
 }
 
+/* ---- An image that comes in fragments ---- */
+
+/* Takes in an image, fragment by fragment as the bus brings it, into a buffer that no plan runs from, and judges it when it is over. Gives 0 and the image's
+ * length, or the number of the refusal, with its place and byte offset in where. */
+static uint32_t receive_image(uint8_t *buffer, uint64_t room, uint64_t where[2], uint64_t *length)
+{
+    struct hv_intake intake;
+    const uint8_t *fragment;
+    uint64_t size;
+    hv_intake_begin(&intake);
+    while (next_fragment(&fragment, &size))
+        if (hv_intake_take(&intake, buffer, room, fragment, size) != 0)
+            break; /* 20: the intake is shut now, so the close gives 20 too */
+    return hv_intake_close(&intake, buffer, room, where, length);
+}
+
 /* ---- The program ---- */
 
-enum { LONGEST = 65536 };
+enum { LONGEST = 69931 }; /* no image that is accepted is longer */
 
 static size_t read_image(const char *name, uint8_t *bytes)
 {
@@ -109,27 +155,63 @@ static void print_refusal(const char *what, uint32_t number, const uint64_t wher
     printf("%s refused %u %llu %llu\n", what, (unsigned)number, (unsigned long long)where[0], (unsigned long long)where[1]);
 }
 
+static void misused(void)
+{
+    fprintf(stderr, "usage: manual IMAGE NEW_IMAGE JOBS [SENDING...], a SENDING being LENGTH[-LOST][+TWICE][/ROOM]\n");
+    exit(2);
+}
+
+/* Has the gateway send the image as a SENDING says; gives the length of the buffer that the drive has for it. */
+static uint64_t send_image(const uint8_t *image, uint64_t length, const char *sending)
+{
+    char *at;
+    uint64_t room;
+    bus.image = image;
+    bus.length = length;
+    bus.sent = bus.index = 0;
+    bus.fragment = strtoull(sending, &at, 10);
+    bus.lost = *at == '-' ? strtoull(at + 1, &at, 10) : UINT64_MAX;
+    bus.twice = *at == '+' ? strtoull(at + 1, &at, 10) : UINT64_MAX;
+    room = *at == '/' ? strtoull(at + 1, &at, 10) : LONGEST;
+    if (*at != 0 || bus.fragment == 0 || room > LONGEST)
+        misused();
+    return room;
+}
+
+/* Tries an image that comes over the bus, as often as it is sent or until it is accepted; gives back whether it was. */
+static int receive_plan(struct plan *plan, const char *name, int sendings, char **sending)
+{
+    static uint8_t sent[LONGEST], buffer[LONGEST];
+    uint64_t length = read_image(name, sent), taken, where[2];
+    for (int i = 0; i < sendings; i++) {
+        uint64_t room = send_image(sent, length, sending[i]);
+        uint32_t number = receive_image(buffer, room, where, &taken);
+        if (number == 0)
+            number = begin_plan(plan, buffer, taken, where);
+        if (number == 0)
+            return 1;
+        print_refusal("new image", number, where);
+    }
+    return 0;
+}
+
 int main(int count, char **arguments)
 {
-    static uint8_t images[2][LONGEST];
+    static char whole[] = "69931", *once[] = {whole};
+    static uint8_t image[LONGEST];
     static struct plan first, second;
     uint64_t where[2];
     uint32_t number;
     int accepted;
-    if (count != 4) {
-        fprintf(stderr, "usage: manual IMAGE NEW_IMAGE JOBS\n");
-        return 2;
-    }
+    if (count < 4)
+        misused();
     jobs_to_run = strtoul(arguments[3], NULL, 10);
-    number = begin_plan(&first, images[0], read_image(arguments[1], images[0]), where);
+    number = begin_plan(&first, image, read_image(arguments[1], image), where);
     if (number != 0) {
         print_refusal("image", number, where);
         return 1;
     }
-    number = begin_plan(&second, images[1], read_image(arguments[2], images[1]), where);
-    accepted = number == 0;
-    if (!accepted)
-        print_refusal("new image", number, where);
+    accepted = receive_plan(&second, arguments[2], count > 4 ? count - 4 : 1, count > 4 ? arguments + 4 : once);
     number = main_loop(&first, accepted ? &second : NULL);
     if (number != 0)
         print_refusal("going on", number, (const uint64_t[]){0, 0});

@@ -1,10 +1,11 @@
 //! What came: how often each operation gave each number, and at how many places.
 
-use crate::written::operation;
+use crate::written::calls;
 use std::collections::{BTreeMap, BTreeSet};
 
-/// For each operation the numbers that it can give, 0 where nothing is refused.
-const NUMBERS: [(&str, &[u32]); 8] = [
+/// For each operation the numbers that it can give, 0 where nothing is refused; an intake's fragments
+/// and its two closes count by themselves.
+const NUMBERS: [(&str, &[u32]); 11] = [
     ("set", &[0, 5, 6, 7, 8, 9]),
     ("check1", &TIMETABLE),
     ("derive", &DERIVE),
@@ -13,6 +14,9 @@ const NUMBERS: [(&str, &[u32]); 8] = [
     ("begin", &TABLES),
     ("go", &[0, 21, 22, 23, 24, 25]),
     ("run", &[0]),
+    ("intake-f", &[0, 20]),
+    ("intake-c", &REBUILD),
+    ("intake-r", &REBUILD),
 ];
 
 const TIMETABLE: [u32; 17] = [0, 1, 2, 3, 4, 5, 6, 7, 8, 9, 10, 11, 12, 13, 14, 15, 16];
@@ -38,17 +42,24 @@ pub struct Came {
 }
 
 impl Came {
-    /// Notes the number and the place of an answer.
+    /// Notes the number and the place of an answer, or of each call's.
     pub fn note(&mut self, case: &str, answer: &str) {
-        let mut words = answer.split_whitespace();
-        let (number, place) = match words.next() {
-            Some("refused") => {
-                let mut figure = || words.next().and_then(|word| word.parse::<u64>().ok());
-                (figure().unwrap_or(0) as u32, figure())
-            }
-            _ => (0, None),
-        };
-        let key = (operation(case).to_string(), number);
+        for (name, line) in calls(case, answer) {
+            let mut words = line.split_whitespace();
+            let (number, place) = match words.next() {
+                Some("refused") => {
+                    let mut figure = || words.next().and_then(|word| word.parse::<u64>().ok());
+                    (figure().unwrap_or(0) as u32, figure())
+                }
+                _ => (0, None),
+            };
+            self.note_number(name, number, place);
+        }
+    }
+
+    /// Notes that an operation gave a number, at a place where it is refused.
+    pub fn note_number(&mut self, operation: &str, number: u32, place: Option<u64>) {
+        let key = (operation.to_string(), number);
         let (count, places) = self.seen.entry(key).or_default();
         *count += 1;
         places.extend(place);

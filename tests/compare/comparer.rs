@@ -1,22 +1,25 @@
 //! Compares the archive with a second opinion: over fixed cases at the edges of the rules, over
-//! random cases, and over every timetable and every table image of some small sets.
+//! random cases and journeys of an intake, and over every timetable and every table image of some
+//! small sets; the table images of all these are also fed to the archive in fragments.
 //! `compare SEED CASES [MOST]` asks so many random cases and ends early after so many differences,
 //! 100 where nothing is said. A difference is a line `CASE => ANSWER` with the second opinion; the
 //! archive's own answer is told on standard error, as is the progress. Then comes how often each
 //! number was given and at how many places; it fails too where one never came, or a part of the
 //! cases was not asked. The last line is the count, with that of the cases of 4 GiB.
-//! `compare print SEED CASES` asks the archive nothing: it prints the fixed cases and so many random
-//! ones, each with the second opinion.
+//! `compare print SEED CASES` asks the archive nothing: it prints the fixed cases, so many random
+//! ones and the intake's journeys, each with the second opinion.
 
 #[path = "../archive.rs"]
 mod archive;
 mod asking;
 mod came;
+mod cuts;
 mod edges;
 #[path = "../every.rs"]
 mod every;
 mod far;
 mod images;
+mod intakes;
 mod large;
 mod limits;
 mod orders;
@@ -80,32 +83,54 @@ pub fn compare(arguments: &[String], second: Opinion) -> ExitCode {
         }
     };
     watch::begin();
-    let mut asking = Asking::new(second, most, edges::ABOUT + count + every::ABOUT);
+    compare_all(seed, count, most, second)
+}
+
+/// Asks all parts, so many random cases among them.
+fn compare_all(seed: u64, count: u64, most: u64, second: Opinion) -> ExitCode {
+    let journeys = count / intakes::ONE_IN;
+    let wanted = edges::ABOUT + count + journeys + every::ABOUT;
+    let mut asking = Asking::new(second, most, wanted);
     let random = stream::Stream::new(seed).take(count as usize);
+    let intakes = intakes::journeys(seed, count);
+    asking.bus.everywhere = true;
     let fixed = part(&mut asking, "fixed cases", |all| {
         all.ask_each(edges::cases())
     });
+    asking.bus.everywhere = false;
     let drawn = part(&mut asking, "random cases", |all| all.ask_each(random));
+    let went = part(&mut asking, "journeys of an intake", |all| {
+        all.ask_each(intakes)
+    });
     let small = part(&mut asking, "cases of small sets", every::compare_all);
     let far = part(&mut asking, "cases of 4 GiB", far::compare_all);
+    let (cut, in_two) = (asking.bus.cut, asking.bus.in_two);
+    if !asking.over() {
+        println!("{cut} images cut at random, {in_two} times a small one in two");
+    }
     let least = [
         ("fixed cases", fixed, edges::ABOUT / 2),
         ("random cases", drawn, count),
+        ("journeys of an intake", went, journeys),
         ("cases of small sets", small, every::ABOUT / 2),
+        ("images cut at random", cut, wanted / 4),
+        ("images cut in two", in_two, cuts::ABOUT_IN_TWO / 2),
     ];
     let few = least.iter().filter(|(_, asked, least)| asked < least);
     let few = few.map(|(name, asked, least)| format!("{asked} {name}, and not {least} at least"));
     verdict(&asking, few.collect(), far)
 }
 
-/// Prints the fixed cases and so many random ones, each with the second opinion.
+/// Prints the fixed cases, so many random ones and the intake's journeys, each with the second opinion.
 fn print_cases(seed: Option<u64>, count: Option<usize>, second: Opinion) -> ExitCode {
     let (Some(seed), Some(count)) = (seed, count) else {
         eprintln!("usage: compare print SEED CASES");
         return ExitCode::from(2);
     };
     let mut out = BufWriter::new(stdout().lock());
-    for case in edges::cases().chain(stream::Stream::new(seed).take(count)) {
+    let random = stream::Stream::new(seed).take(count);
+    let cases = edges::cases().chain(random);
+    for case in cases.chain(intakes::journeys(seed, count as u64)) {
         let answer = second(&case).expect("the case can be read");
         writeln!(out, "{case} => {answer}").expect("standard output can be written");
     }

@@ -1,10 +1,16 @@
 //! Offsets at the very end of 32 bits: the one place where a record may stand whole in an image and
-//! still end behind byte 4,294,967,295, which only an image of more than 4 GiB shows. Its bytes are
-//! memory that is nearly all never touched. What is expected is written here by hand. Only on a
-//! machine that has no such memory may these cases be left out, and then the report says so.
+//! still end behind byte 4,294,967,295, which only an image of more than 4 GiB shows; and an intake
+//! whose buffer is as long, with counts about there. Its bytes are memory that is nearly all never
+//! touched. What is expected is written here by hand. Only on a machine that has no such memory may
+//! these cases be left out, and then the report says so.
 
-use crate::archive::{hv_go_on, NEXT, NOW, NUMBERS, TASKS};
+use crate::archive::{
+    hv_go_on, hv_intake_close, hv_intake_rebuild, hv_intake_take, NEXT, NOW, NUMBERS, TASKS,
+};
 use crate::asking::Asking;
+use crate::edges::by_hand;
+use crate::images::records_of;
+use crate::independent::{encode, TABLES};
 use std::alloc::{alloc_zeroed, dealloc, Layout};
 
 const BORDER: usize = 1 << 32;
@@ -20,10 +26,22 @@ const EN: &[u8] = b"EN\x00\x00\x00\x00";
 const IDLE: usize = NOW;
 const OF_TASK_1: usize = NOW + 2;
 
-/// The cases that there are.
-pub const CASES: u64 = 10;
+/// A fragment, and the counts with which it is taken: across the border, behind it, up to the buffer's
+/// end, one byte too far, and above the buffer's length.
+const FRAGMENT: &[u8; 8] = b"fragment";
+const COUNTS: [usize; 6] = [
+    BORDER - 4,
+    BORDER,
+    BORDER + 91,
+    LENGTH - FRAGMENT.len(),
+    LENGTH - FRAGMENT.len() + 1,
+    LENGTH + 1,
+];
 
-/// Two tasks (0,1,10,10), of which task 0's job runs from 0: task 1's starts at 1.
+/// The cases that there are.
+pub const CASES: u64 = 18;
+
+/// For going on, two tasks (0,1,10,10), of which task 0's job runs from 0: task 1's starts at 1.
 pub fn compare_all(asking: &mut Asking) {
     let layout = Layout::array::<u8>(LENGTH).expect("an address has 64 bits");
     // SAFETY: the layout is not empty.
@@ -42,6 +60,16 @@ pub fn compare_all(asking: &mut Asking) {
             if !asking.over() {
                 compare(asking, image, record, number, ends_at);
             }
+        }
+    }
+    for count in COUNTS {
+        if !asking.over() {
+            compare_take(asking, image, count);
+        }
+    }
+    for rebuilds in [false, true] {
+        if !asking.over() {
+            compare_close(asking, image, rebuilds);
         }
     }
     // SAFETY: it was allocated with this layout.
@@ -79,6 +107,60 @@ fn compare(asking: &mut Asking, image: *mut u8, record: &[u8], number: usize, en
     let mark = String::from_utf8_lossy(&record[..2]);
     let case =
         format!("an image of {LENGTH} bytes, {mark} at {at} for number {number} of the state");
+    asking.compare(&case, &format!("{expected:?}"), &format!("{told:?}"));
+}
+
+/// Takes the fragment with this count; the buffer's front, where its lower 32 bits are, is to stay 0.
+fn compare_take(asking: &mut Asking, buffer: *mut u8, count: usize) {
+    let mut intake = [1, count as u64];
+    let fits = count + FRAGMENT.len() <= LENGTH;
+    let at = if fits { count } else { 0 };
+    // SAFETY: the buffer has as many bytes as is said, and nothing else refers to it; all that is read
+    // or put back lies in it.
+    let (answer, there, kept) = unsafe {
+        buffer.write_bytes(0, EN.len());
+        let (k, from) = (intake.as_mut_ptr(), FRAGMENT.as_ptr());
+        let answer = hv_intake_take(k, buffer, LENGTH, from, FRAGMENT.len());
+        let place = buffer.add(at).cast::<[u8; FRAGMENT.len()]>();
+        let there = place.read();
+        place.write_bytes(0, 1);
+        let mut front = 0..2 * (LENGTH - BORDER);
+        (answer, there, front.all(|i| buffer.add(i).read() == 0))
+    };
+    let expected = if fits {
+        let after = (count + FRAGMENT.len()) as u64;
+        (0, [1, after], *FRAGMENT, true)
+    } else {
+        (20, [0, 0], [0; FRAGMENT.len()], true)
+    };
+    let told = (answer, intake, there, kept);
+    let case = format!("a fragment with count {count} into a buffer of {LENGTH} bytes");
+    asking.compare(&case, &format!("{expected:?}"), &format!("{told:?}"));
+}
+
+/// Closes with P2's image of 91 bytes at the buffer's front and a count of 91 and 2^32: bytes follow EN.
+fn compare_close(asking: &mut Asking, buffer: *mut u8, rebuilds: bool) {
+    let (set, entries) = by_hand();
+    let image = encode(&records_of(&set, &entries, TABLES));
+    let mut intake = [1, (BORDER + image.len()) as u64];
+    let (mut location, mut length, mut out) = ([9; 2], 9, [9; 114]);
+    // SAFETY: the image lies in the buffer, which has as many bytes as is said, as the output has, and
+    // which nothing else refers to.
+    let answer = unsafe {
+        buffer.copy_from_nonoverlapping(image.as_ptr(), image.len());
+        let (k, at) = (intake.as_mut_ptr(), location.as_mut_ptr());
+        let answer = if rebuilds {
+            let (to, room) = (out.as_mut_ptr(), out.len());
+            hv_intake_rebuild(k, buffer, LENGTH, to, room, at, &mut length)
+        } else {
+            hv_intake_close(k, buffer, LENGTH, at, &mut length)
+        };
+        buffer.write_bytes(0, image.len());
+        answer
+    };
+    let told = (answer, location, intake, length, out == [9; 114]);
+    let expected = (10, [7, 85], [0, 0], 9, true);
+    let case = format!("a close with a count of 2^32 + 91, rebuilding: {rebuilds}");
     asking.compare(&case, &format!("{expected:?}"), &format!("{told:?}"));
 }
 

@@ -38,6 +38,13 @@ pub fn cases(chance: &mut Chance) -> Vec<String> {
     cases
 }
 
+/// A table image, drawn anew.
+pub fn tables(chance: &mut Chance) -> Vec<u8> {
+    let (set, entries) = some_timetable(chance);
+    let records = records_of(&set, &entries, TABLES);
+    damaged(chance, &set, records, TABLES)
+}
+
 /// The image of the records, with none to three kinds of damage.
 fn damaged(chance: &mut Chance, set: &Set, mut records: Vec<Record>, kind: u64) -> Vec<u8> {
     let aims = if kind == TIMETABLE {
@@ -130,7 +137,8 @@ pub fn right_room(image: &[u8], kind: u64) -> u64 {
     result.map_or(image.len(), |result| result.len()) as u64
 }
 
-fn room_for(chance: &mut Chance, image: &[u8], kind: u64) -> u64 {
+/// A length of the output, about the right one.
+pub fn room_for(chance: &mut Chance, image: &[u8], kind: u64) -> u64 {
     let right = right_room(image, kind);
     match chance.below(16) {
         0..=5 => right,

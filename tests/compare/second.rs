@@ -11,12 +11,15 @@ mod form;
 #[allow(dead_code)]
 #[path = "../independent/independent.rs"]
 mod independent;
+#[path = "../independent/intake.rs"]
+mod intake;
 #[path = "../independent/landed.rs"]
 pub mod landed;
 
 use dispatcher::{Start, SLOTS};
 use form::{image_from, image_text, task_from};
 use independent::{Refusal, Rules, Task};
+use intake::Intake;
 use landed::Landed;
 
 /// The answer to a case with these requests landed; none where the case cannot be read.
@@ -52,6 +55,9 @@ pub fn answer(landed: Landed, case: &str) -> Option<String> {
             Some(rules.step_text(&step, &image))
         }
         ["run", steps, image] => run_answer(rules, steps.parse().ok()?, &image_from(image)?),
+        ["intake", length, room, ref tokens @ ..] if landed.has(1) => {
+            intake_answer(rules, length.parse().ok()?, room.parse().ok()?, tokens)
+        }
         _ => None,
     }
 }
@@ -121,4 +127,66 @@ fn run_answer(rules: Rules, steps: u64, image: &[u8]) -> Option<String> {
         }
     }
     Some(told.join("|"))
+}
+
+/// What the holder of an intake, begun over a buffer of so many bytes A5, is told token by token, each
+/// with the intake's numbers behind it, and the buffer afterwards.
+fn intake_answer(rules: Rules, length: usize, room: u64, tokens: &[&str]) -> Option<String> {
+    let mut buffer = vec![0xA5; length];
+    let mut intake = Intake::begun();
+    let mut told = Vec::new();
+    for token in tokens {
+        let line = token_answer(rules, &mut intake, &mut buffer, room, token)?;
+        told.push(format!("{line} [{},{}]", intake.open, intake.count));
+    }
+    told.push(format!("buffer {}", image_text(&buffer)));
+    Some(told.join("|"))
+}
+
+/// What one call on an intake answers, or a change of its numbers.
+fn token_answer(
+    rules: Rules,
+    intake: &mut Intake,
+    buffer: &mut [u8],
+    room: u64,
+    token: &str,
+) -> Option<String> {
+    let argument = token.get(1..)?;
+    let answer = match (&token[..1], argument) {
+        ("b", "") => {
+            *intake = Intake::begun();
+            Ok("begun".to_string())
+        }
+        ("n", count) => {
+            intake.count = count.parse().ok()?;
+            Ok("forged".to_string())
+        }
+        ("o", open) => {
+            intake.open = open.parse().ok()?;
+            Ok("forged".to_string())
+        }
+        ("f", fragment) => {
+            let taken = intake.take(buffer, &image_from(fragment)?);
+            taken.map(|()| "taken".to_string())
+        }
+        ("c", "") => return closed_answer(rules, intake.close(buffer), None),
+        ("r", "") => return closed_answer(rules, intake.close(buffer), Some(room)),
+        _ => return None,
+    };
+    Some(answer.unwrap_or_else(|refusal| rules.refusal_text(refusal, &[])))
+}
+
+/// What a close answers for the bytes that were taken: judged alone, or rebuilt into a room.
+fn closed_answer(rules: Rules, taken: Result<&[u8], Refusal>, room: Option<u64>) -> Option<String> {
+    match (taken, room) {
+        (Err(refusal), _) => Some(rules.refusal_text(refusal, &[])),
+        (Ok(image), Some(room)) => turn_answer(rules, image, rules.rebuild(image, room)),
+        (Ok(image), None) => {
+            let length = rules.check_tables(image).map(|_| image.len());
+            Some(match length {
+                Ok(length) => format!("ok {length}"),
+                Err(refusal) => rules.refusal_text(refusal, image),
+            })
+        }
+    }
 }

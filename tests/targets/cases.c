@@ -5,7 +5,7 @@
 #include "hervantyu.h"
 #include "io.h"
 
-enum { GUARD = 16, LINE = 1 << 21, ANSWER = 1 << 19, IMAGE = 1 << 20, ARENA = 1 << 21, WORDS = 24 };
+enum { GUARD = 16, LINE = 1 << 21, ANSWER = 1 << 19, IMAGE = 1 << 20, ARENA = 1 << 21, WORDS = 4096 };
 
 /* ---- Text ---- */
 
@@ -162,10 +162,9 @@ static unsigned digit_of(char letter)
     return (unsigned)(letter - 'a' + 10);
 }
 
-/* The bytes of a word in hex go to image; gives their count. */
-static size_t bytes_of(int word)
+/* Bytes in hex go to image; gives their count. */
+static size_t bytes_at(const char *at)
 {
-    const char *at = words[word];
     size_t length = 0;
     if (at[0] == '-' && at[1] == ' ')
         return 0;
@@ -175,6 +174,12 @@ static size_t bytes_of(int word)
         image[length++] = (uint8_t)(digit_of(at[0]) << 4 | digit_of(at[1]));
     }
     return length;
+}
+
+/* The bytes of a word. */
+static size_t bytes_of(int word)
+{
+    return bytes_at(words[word]);
 }
 
 /* ---- What is lent: bytes or numbers between guards, and how all was before the call ---- */
@@ -196,6 +201,13 @@ static uint8_t *take(size_t length)
     return at;
 }
 
+/* From now on all is to be as it is now. */
+static void keep(const struct lent *lent)
+{
+    for (size_t i = 0; i < lent->length; i++)
+        lent->before[i] = lent->now[i];
+}
+
 /* Lends a content, or filling; one of the two fillings puts bytes at an odd address. */
 static struct lent lend(const void *content, size_t unit, size_t count, uint8_t filling)
 {
@@ -209,8 +221,7 @@ static struct lent lend(const void *content, size_t unit, size_t count, uint8_t 
     if (content)
         for (size_t i = 0; i < count * unit; i++)
             lent.now[lent.front + i] = bytes[i];
-    for (size_t i = 0; i < lent.length; i++)
-        lent.before[i] = lent.now[i];
+    keep(&lent);
     return lent;
 }
 
@@ -299,8 +310,7 @@ static void judge_set(uint8_t filling)
         for (int k = 0; k < 4; k++)
             numbers[4 * (i - 2) + k] = (uint32_t)number_at(&at, k < 3 ? ',' : ' ');
     }
-    for (size_t i = 0; i < tasks.length; i++)
-        tasks.before[i] = tasks.now[i];
+    keep(&tasks);
     number = hv_judge_set((uint32_t)n, numbers, pointer(&place), pointer(&hyperperiod), pointer(&jobs));
     demand_kept(&tasks, 0, "the tasks changed");
     demand_kept(&hyperperiod, !number, "the hyperperiod changed where it is to be kept");
@@ -329,10 +339,36 @@ static void check(uint8_t filling, uint32_t (*function)(const uint8_t *restrict,
         put("ok");
 }
 
+static void put_bytes(const uint8_t *bytes, size_t count)
+{
+    put(count ? "" : "-");
+    for (size_t i = 0; i < count; i++)
+        put_byte(bytes[i]);
+}
+
+/* What deriving or rebuilding gave, in an output of so many bytes. */
+static void put_made(uint32_t number, uint64_t room, const struct lent *out, const struct lent *where, const struct lent *made)
+{
+    uint64_t written = number ? 0 : wide(made, 0);
+    demand_kept(made, !number, "the length changed where it is to be kept");
+    if (written > room)
+        fault("the length is above the room");
+    demand_kept(out, (size_t)written, "the output changed where it is to be kept");
+    demand_where(number, where, 2);
+    if (number) {
+        put_refused(number, pointer(where), 2);
+        return;
+    }
+    put("ok ");
+    put_number(written);
+    put(" ");
+    put_bytes(pointer(out), (size_t)written);
+}
+
 static void turn(uint8_t filling,
                  uint32_t (*function)(const uint8_t *restrict, uint64_t, uint8_t *restrict, uint64_t, uint64_t *restrict, uint64_t *restrict))
 {
-    uint64_t room = number_of(1), written = 0;
+    uint64_t room = number_of(1);
     size_t length = bytes_of(2);
     if (room > ARENA)
         fault("no room for what is lent");
@@ -340,22 +376,7 @@ static void turn(uint8_t filling,
     struct lent where = lend(NULL, 8, 2, filling), made = lend(NULL, 8, 1, filling);
     uint32_t number = function(pointer(&bytes), length, pointer(&out), room, pointer(&where), pointer(&made));
     demand_kept(&bytes, 0, "the image changed");
-    demand_kept(&made, !number, "the length changed where it is to be kept");
-    if (number == 0)
-        written = wide(&made, 0);
-    if (written > room)
-        fault("the length is above the room");
-    demand_kept(&out, (size_t)written, "the output changed where it is to be kept");
-    demand_where(number, &where, 2);
-    if (number) {
-        put_refused(number, pointer(&where), 2);
-        return;
-    }
-    put("ok ");
-    put_number(written);
-    put(written ? " " : " -");
-    for (size_t i = 0; i < written; i++)
-        put_byte(((const uint8_t *)pointer(&out))[i]);
+    put_made(number, room, &out, &where, &made);
 }
 
 static void begin(uint8_t filling)
@@ -413,6 +434,110 @@ static void run(uint8_t filling)
     }
 }
 
+/* ---- The intake: a row of calls on one buffer, each a word ---- */
+
+/* A fragment is lent; where it is taken, the buffer is to have it behind the count, and all else as it was. */
+static void take_fragment(const struct lent *state, const struct lent *buffer, uint64_t length, const char *text, uint8_t filling)
+{
+    size_t size = bytes_at(text);
+    struct lent fragment = lend(image, 1, size, filling);
+    uint64_t count = wide(state, 1);
+    uint32_t number = hv_intake_take(pointer(state), pointer(buffer), length, pointer(&fragment), size);
+    demand_kept(&fragment, 0, "the fragment changed");
+    if (number) {
+        put_refused(number, nowhere, 2);
+        return;
+    }
+    if (count > length || size > length - count)
+        fault("a fragment is taken that does not fit");
+    for (size_t i = 0; i < size; i++)
+        buffer->before[buffer->front + count + i] = image[i];
+    put("taken");
+}
+
+static void close_intake(const struct lent *state, const struct lent *buffer, uint64_t length, uint8_t filling)
+{
+    struct lent where = lend(NULL, 8, 2, filling), made = lend(NULL, 8, 1, filling);
+    uint32_t number = hv_intake_close(pointer(state), pointer(buffer), length, pointer(&where), pointer(&made));
+    demand_kept(&made, !number, "the length changed where it is to be kept");
+    demand_where(number, &where, 2);
+    if (number) {
+        put_refused(number, pointer(&where), 2);
+        return;
+    }
+    put("ok ");
+    put_number(wide(&made, 0));
+}
+
+static void rebuild_intake(const struct lent *state, const struct lent *buffer, uint64_t length, uint64_t room, uint8_t filling)
+{
+    struct lent out = lend(NULL, 1, (size_t)room, filling), where = lend(NULL, 8, 2, filling), made = lend(NULL, 8, 1, filling);
+    uint32_t number = hv_intake_rebuild(pointer(state), pointer(buffer), length, pointer(&out), room, pointer(&where), pointer(&made));
+    put_made(number, room, &out, &where, &made);
+}
+
+/* The caller itself puts a number into the intake: open is the first, count the second. */
+static void forge(const struct lent *state, size_t index, const char *text)
+{
+    ((uint64_t *)pointer(state))[index] = number_at(&text, ' ');
+    put("forged");
+}
+
+static void intake_call(const struct lent *state, const struct lent *buffer, uint64_t length, uint64_t room, const char *word, uint8_t filling)
+{
+    if (word[0] != 'f' && word[0] != 'n' && word[0] != 'o' && word[1] != ' ')
+        fault("no such call of an intake");
+    switch (word[0]) {
+    case 'b':
+        hv_intake_begin(pointer(state));
+        put("begun");
+        break;
+    case 'f':
+        take_fragment(state, buffer, length, word + 1, filling);
+        break;
+    case 'c':
+        close_intake(state, buffer, length, filling);
+        break;
+    case 'r':
+        rebuild_intake(state, buffer, length, room, filling);
+        break;
+    case 'o':
+    case 'n':
+        forge(state, word[0] == 'n', word + 1);
+        break;
+    default:
+        fault("no such call of an intake");
+    }
+}
+
+/* The buffer's bytes are A5 at first. What a call alone is lent is taken back behind it. */
+static void intake(uint8_t filling)
+{
+    uint64_t length = number_of(1), room = number_of(2);
+    if (length > ARENA || room > ARENA)
+        fault("no room for what is lent");
+    struct lent state = lend(NULL, 8, 2, filling), buffer = lend(NULL, 1, (size_t)length, filling);
+    uint8_t *bytes = pointer(&buffer);
+    for (size_t i = 0; i < length; i++)
+        bytes[i] = 0xA5;
+    keep(&buffer);
+    hv_intake_begin(pointer(&state));
+    for (int i = 3; i < word_count; i++) {
+        size_t used = arena_used;
+        intake_call(&state, &buffer, length, room, words[i], filling);
+        demand_kept(&state, 2, "written beside the intake");
+        demand_kept(&buffer, 0, "the buffer is not as it was, or not with the fragment alone");
+        arena_used = used;
+        put(" [");
+        put_number(wide(&state, 0));
+        put(",");
+        put_number(wide(&state, 1));
+        put("]|");
+    }
+    put("buffer ");
+    put_bytes(bytes, (size_t)length);
+}
+
 /* ---- The program ---- */
 
 /* Whether the line's first word is this operation, with so many words behind it. */
@@ -449,6 +574,8 @@ static void ask(uint8_t filling)
         go(filling);
     else if (is("run", 2))
         run(filling);
+    else if (is("intake", -1) && word_count > 2)
+        intake(filling);
     else
         fault("no such operation");
 }

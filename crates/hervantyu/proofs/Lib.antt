@@ -2,6 +2,8 @@ pub mod ToldAnswers
 pub mod Returned
 pub mod FaceSets
 pub mod FaceImages
+pub mod FaceIntakes
+pub mod FedFragments
 pub mod FaceTurns
 pub mod ServedCalls
 pub mod Promises

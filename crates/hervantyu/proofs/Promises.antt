@@ -15,7 +15,7 @@ use Rattle.rules.specs.declared.Refusal.{Refusal}
 use Rattle.rules.specs.declared.CheckAnswer.{CheckAnswer}
 use Rattle.rules.specs.declared.MakeAnswer.{MakeAnswer}
 use Rattle.rules.specs.declared.Turn.{Turn}
-use Rattle.rules.specs.Refusals.{gives, refusal, First, Told}
+use Rattle.rules.specs.Refusals.{gives, refuses, refusal, First, Told}
 use Rattle.rules.specs.Tasks.{Set, task, release, due, all-jobs, hyperperiod, memory-tests, judge-set}
 use Rattle.rules.specs.Timetable.{entry-at, job-at}
 use Rattle.rules.specs.Priority.{slot}
@@ -29,11 +29,14 @@ use Rattle.numbers.specs.Numbers.{set-from, state-from}
 use Rattle.sets.specs.Sets.{GoodInMemory}
 use Rattle.sets.proofs.Promises as sets
 use Rattle.hervantyu.specs.Lent.{SetJudged, CheckTold, TimetableChecked, TablesChecked, Written, Derived, Rebuilt}
-use Rattle.hervantyu.specs.Lent.{TurnTold, Begun, GoneOn}
+use Rattle.hervantyu.specs.Lent.{Holds, Fits, FragmentTaken, IntakeBegun, IntakeClosed, IntakeRebuilt, TurnTold, Begun, GoneOn}
+use Rattle.hervantyu.specs.Feeding.{whole, IntakeLog, Feeds}
 use Rattle.hervantyu.specs.Runs.{Honest, Log}
 use Rattle.hervantyu.proofs.Returned.{zero-exactly, zero-place, refusal-exactly}
 use Rattle.hervantyu.proofs.FaceSets as face-sets
 use Rattle.hervantyu.proofs.FaceImages as face-images
+use Rattle.hervantyu.proofs.FaceIntakes as face-intakes
+use Rattle.hervantyu.proofs.FedFragments as fed
 use Rattle.hervantyu.proofs.FaceTurns as face-turns
 use Rattle.hervantyu.proofs.ServedCalls.{logged, goes-on, stays, ends, a-log, an-early-call}
 
@@ -85,6 +88,32 @@ pub one-rebuild-outcome : (image old-output : List ℕ) {old-length r l r′ l�
     Rebuilt image old-output old-length r w l out → Rebuilt image old-output old-length r′ w′ l′ out′ →
     (r ≡ r′) × (w ≡ w′) × (l ≡ l′) × (out ≡ out′)
 one-rebuild-outcome image old-output = one-written-outcome
+
+-- two outcomes of taking a fragment are equal: the number, the intake's two numbers, and every byte of the buffer
+pub one-take-outcome : {numbers buffer fragment k k′ b b′ : List ℕ} {r r′ : ℕ} →
+    FragmentTaken numbers buffer fragment r k b → FragmentTaken numbers buffer fragment r′ k′ b′ → (r ≡ r′) × (k ≡ k′) × (b ≡ b′)
+one-take-outcome a b = (
+  same (a .taken .its-number) (b .taken .its-number),
+  same (a .taken .its-numbers) (b .taken .its-numbers),
+  same (a .taken .its-buffer) (b .taken .its-buffer),
+)
+
+-- so are those of the two closing calls
+pub one-close-outcome : {numbers buffer k k′ w w′ : List ℕ} {old-length r l r′ l′ : ℕ} →
+    IntakeClosed numbers buffer old-length r w l k → IntakeClosed numbers buffer old-length r′ w′ l′ k′ → (r ≡ r′) × (w ≡ w′) × (l ≡ l′) × (k ≡ k′)
+one-close-outcome a b = (
+  same (a .told .its-number) (b .told .its-number),
+  same (a .told .its-location) (b .told .its-location),
+  same (a .told .its-length) (b .told .its-length),
+  same (a .its-numbers) (b .its-numbers),
+)
+
+pub one-closing-rebuild-outcome : {numbers buffer old k k′ w w′ out out′ : List ℕ} {old-length r l r′ l′ : ℕ} →
+    IntakeRebuilt numbers buffer old old-length r w l out k → IntakeRebuilt numbers buffer old old-length r′ w′ l′ out′ k′ →
+    (r ≡ r′) × (w ≡ w′) × (l ≡ l′) × (out ≡ out′) × (k ≡ k′)
+one-closing-rebuild-outcome a b =
+    let made = one-written-outcome (a .written) (b .written) in
+    (made .0, made .1, made .2, made .3, same (a .its-numbers) (b .its-numbers))
 
 -- two outcomes of a turn of the dispatcher are equal: the number, what the lent start holds, and every number of the state
 pub one-turn-outcome : {turn : Turn} {old-start s s′ d d′ : List ℕ} {r r′ : ℕ} →
@@ -259,6 +288,148 @@ pub derive-after-rebuild : (image old : List ℕ) {old-length l : ℕ} {w out : 
     (other : List ℕ) {other-length r′ l′ : ℕ} {w′ out′ : List ℕ} → Derived (take l out) other other-length r′ w′ l′ out′ → length image ≤ length other →
     (r′ ≡ 0) × (w′ ≡ 0 ∷ 0 ∷ []) × (l′ ≡ length image) × (out′ ≡ image ++ drop (length image) other)
 derive-after-rebuild = face-images.back-and-there
+
+-- DEMAND 1, R-1, hv_intake_take: any two numbers, any buffer and any fragment
+
+module _ {numbers buffer fragment numbers′ buffer′ : List ℕ} {r : ℕ} (taken : FragmentTaken numbers buffer fragment r numbers′ buffer′) where
+  -- returns 0 exactly where the intake is open and the fragment fits behind its count
+  pub take-accepted-exactly : (r ≡ 0) ↔ Fits numbers buffer fragment
+  take-accepted-exactly = face-intakes.take-zero taken
+
+  -- with 0 the count is more by the fragment's length, the fragment stands behind the bytes that were held, and all other bytes keep their values
+  pub take-writes-exactly : r ≡ 0 →
+      (numbers′ ≡ 1 ∷ (slot numbers 1 + length fragment) ∷ [])
+      × (buffer′ ≡ take (slot numbers 1) buffer ++ (fragment ++ drop (slot numbers 1 + length fragment) buffer))
+  take-writes-exactly z = let done = face-intakes.fits-behind taken (take-accepted-exactly .0 z) in (done .1, done .2)
+
+  -- returns 0 or 20
+  pub take-returns : (r ≡ 0) ⊎ (r ≡ 20)
+  take-returns = face-intakes.take-numbers taken
+
+  -- a refusal leaves both numbers 0 and every byte of the buffer as it was
+  pub take-refused-leaves : 1 ≤ r → (numbers′ ≡ 0 ∷ 0 ∷ []) × (buffer′ ≡ buffer)
+  take-refused-leaves = face-intakes.take-leaves taken
+
+-- DEMANDS 1 AND 2, R-1, hv_intake_close: any two numbers and any buffer
+
+module _ {numbers buffer w numbers′ : List ℕ} {old-length r l : ℕ} (closing : IntakeClosed numbers buffer old-length r w l numbers′) where
+  -- of the bytes that are held it returns, and leaves in the location, what `hv_check_tables` does
+  pub close-returns-as-checking : Holds numbers buffer → TablesChecked (take (slot numbers 1) buffer) r w
+  close-returns-as-checking = face-intakes.close-checks closing
+
+  -- where none are held it returns 20, with place and byte offset 0
+  pub close-of-nothing : (Holds numbers buffer → ⊥) → (r ≡ 20) × (w ≡ 0 ∷ 0 ∷ [])
+  close-of-nothing = face-intakes.close-nothing closing
+
+  -- with 0 the length is the count
+  pub close-accepted-length : r ≡ 0 → l ≡ slot numbers 1
+  close-accepted-length = face-intakes.close-length closing
+
+  -- a refusal leaves the length as it was
+  pub close-refused-keeps : 1 ≤ r → l ≡ old-length
+  close-refused-keeps = face-intakes.close-keeps closing
+
+  -- returns 0 to 10, or 17 to 20
+  pub close-returns : (r ≤ 10) ⊎ ((17 ≤ r) × (r ≤ 20))
+  close-returns = face-intakes.close-numbers closing
+
+  -- whatever it returns, both numbers are 0
+  pub close-shuts : numbers′ ≡ 0 ∷ 0 ∷ []
+  close-shuts = closing .its-numbers
+
+-- DEMANDS 1 AND 2, R-1, hv_intake_rebuild: any two numbers, any buffer and any output
+
+module _ {numbers buffer old w out numbers′ : List ℕ} {old-length r l : ℕ} (closing : IntakeRebuilt numbers buffer old old-length r w l out numbers′) where
+  -- of the bytes that are held it returns, and leaves in all that was lent, what `hv_rebuild` does
+  pub closing-returns-as-rebuilding : Holds numbers buffer → Rebuilt (take (slot numbers 1) buffer) old old-length r w l out
+  closing-returns-as-rebuilding = face-intakes.closing-rebuilds closing
+
+  -- where none are held it returns 20, with place and byte offset 0
+  pub closing-rebuild-of-nothing : (Holds numbers buffer → ⊥) → (r ≡ 20) × (w ≡ 0 ∷ 0 ∷ [])
+  closing-rebuild-of-nothing = face-intakes.closing-nothing closing
+
+  -- a refusal leaves the length and every byte of the output as they were
+  pub closing-rebuild-refused-keeps : 1 ≤ r → (l ≡ old-length) × (out ≡ old)
+  closing-rebuild-refused-keeps = face-intakes.closing-keeps closing
+
+  -- returns 0 to 10, or 17 to 20
+  pub closing-rebuild-returns : (r ≤ 10) ⊎ ((17 ≤ r) × (r ≤ 20))
+  closing-rebuild-returns = face-intakes.closing-numbers closing
+
+  -- whatever it returns, both numbers are 0
+  pub closing-rebuild-shuts : numbers′ ≡ 0 ∷ 0 ∷ []
+  closing-rebuild-shuts = closing .its-numbers
+
+-- R-1, of every log of calls on an intake that has taken bytes: each fragment fitted, and no closing call was made since it was begun
+
+module _ {bytes numbers buffer : List ℕ} (log : IntakeLog (gives bytes) numbers buffer) where
+  -- it is open with their number, and they stand at the front of the buffer
+  pub intake-holds : (numbers ≡ 1 ∷ length bytes ∷ []) × (take (length bytes) buffer ≡ bytes)
+  intake-holds = (fed.stands log .its-numbers, fed.log-front log)
+
+  -- a fragment that fits is taken, and stands behind them; all other bytes keep their values
+  pub intake-takes : {fragment numbers′ buffer′ : List ℕ} {r : ℕ} → FragmentTaken numbers buffer fragment r numbers′ buffer′ →
+      length (bytes ++ fragment) ≤ length buffer →
+      (r ≡ 0) × (numbers′ ≡ 1 ∷ length (bytes ++ fragment) ∷ []) × (buffer′ ≡ (bytes ++ fragment) ++ drop (length (bytes ++ fragment)) buffer)
+  intake-takes taken = face-intakes.joins taken (fed.log-held log)
+
+  -- one that does not is refused with 20, leaves every byte of the buffer as it was, and shuts the intake
+  pub intake-refuses : {fragment numbers′ buffer′ : List ℕ} {r : ℕ} → FragmentTaken numbers buffer fragment r numbers′ buffer′ →
+      length buffer < length (bytes ++ fragment) → (r ≡ 20) × (numbers′ ≡ 0 ∷ 0 ∷ []) × (buffer′ ≡ buffer)
+  intake-refuses taken = face-intakes.overflows taken (fed.log-held log)
+
+  -- closing returns, and leaves in the location, what `hv_check_tables` does of the joined bytes; the length is theirs where they are accepted, and else as it
+  -- was
+  pub closes-as-joined : {w numbers′ : List ℕ} {old-length r l : ℕ} → IntakeClosed numbers buffer old-length r w l numbers′ →
+      TablesChecked bytes r w × (r ≡ 0 → l ≡ length bytes) × (1 ≤ r → l ≡ old-length)
+  closes-as-joined closing = face-intakes.closes closing (fed.log-held log)
+
+  -- closing with rebuilding returns, and leaves in all that was lent, what `hv_rebuild` does of the joined bytes
+  pub rebuilds-as-joined : {old w out numbers′ : List ℕ} {old-length r l : ℕ} → IntakeRebuilt numbers buffer old old-length r w l out numbers′ →
+      Rebuilt bytes old old-length r w l out
+  rebuilds-as-joined closing = face-intakes.rebuilds closing (fed.log-held log)
+
+  -- and where closing returned 0, `hv_begin` on the front of the buffer is `hv_begin` on the joined bytes
+  pub begins-as-joined : {w numbers′ : List ℕ} {old-length l : ℕ} → IntakeClosed numbers buffer old-length 0 w l numbers′ →
+      {old-start location start state : List ℕ} {r : ℕ} → Begun (take l buffer) old-start r location start state →
+      Begun bytes old-start r location start state
+  begins-as-joined closing begins =
+      let front = ap (λ (n : ℕ). take n buffer) (closes-as-joined closing .1 refl) ∙ intake-holds .1 in rw front at begins
+
+-- R-1, of every log that came to a fragment that was refused or to a closing call, whatever was lent to that one, with no begin since: every fragment and
+-- both closing calls return 20, and leave all but the location as it was and both numbers 0
+
+module _ {q : Refusal} {numbers buffer : List ℕ} (log : IntakeLog (refuses q) numbers buffer) where
+  pub intake-is-shut : numbers ≡ 0 ∷ 0 ∷ []
+  intake-is-shut = fed.stands log .its-numbers
+
+  pub shut-refuses : {fragment numbers′ buffer′ : List ℕ} {r : ℕ} → FragmentTaken numbers buffer fragment r numbers′ buffer′ →
+      (r ≡ 20) × (numbers′ ≡ 0 ∷ 0 ∷ []) × (buffer′ ≡ buffer)
+  shut-refuses taken = face-intakes.refused-shut taken (fed.log-shut log)
+
+  pub shut-closes : {w numbers′ : List ℕ} {old-length r l : ℕ} → IntakeClosed numbers buffer old-length r w l numbers′ →
+      (r ≡ 20) × (w ≡ 0 ∷ 0 ∷ []) × (l ≡ old-length) × (numbers′ ≡ 0 ∷ 0 ∷ [])
+  shut-closes closing = let done = face-intakes.closes-shut closing (fed.log-shut log) in (done .0, done .1, done .2, closing .its-numbers)
+
+  pub shut-rebuilds : {old w out numbers′ : List ℕ} {old-length r l : ℕ} → IntakeRebuilt numbers buffer old old-length r w l out numbers′ →
+      (r ≡ 20) × (w ≡ 0 ∷ 0 ∷ []) × (l ≡ old-length) × (out ≡ old) × (numbers′ ≡ 0 ∷ 0 ∷ [])
+  shut-rebuilds closing =
+      let done = face-intakes.rebuilds-shut closing (fed.log-shut log) in (done .0, done .1, done .2, done .3, closing .its-numbers)
+
+-- R-1, however an image is cut into fragments, of whatever length, some of length 0: where it fits the buffer the log has taken exactly its bytes, and where
+-- it does not the intake is shut
+
+pub however-cut : {fragments : List (List ℕ)} {numbers buffer numbers′ buffer′ : List ℕ} → IntakeBegun numbers →
+    Feeds fragments numbers buffer numbers′ buffer′ → length (whole fragments) ≤ length buffer → IntakeLog (gives (whole fragments)) numbers′ buffer′
+however-cut = fed.fed-whole
+
+pub however-cut-too-long : {fragments : List (List ℕ)} {numbers buffer numbers′ buffer′ : List ℕ} → IntakeBegun numbers →
+    Feeds fragments numbers buffer numbers′ buffer′ → length buffer < length (whole fragments) → IntakeLog (refuses (refusal 20 0)) numbers′ buffer′
+however-cut-too-long = fed.fed-too-long
+
+-- not vacuous: every list of fragments can be fed
+pub feeds-exist : (fragments : List (List ℕ)) (numbers buffer : List ℕ) → (numbers′ : List ℕ) × (buffer′ : List ℕ) × Feeds fragments numbers buffer numbers′ buffer′
+feeds-exist = fed.can-be-fed
 
 -- DEMAND 1, hv_begin
 

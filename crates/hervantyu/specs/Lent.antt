@@ -1,17 +1,20 @@
 -- What the C face is lent and what it leaves there, in the rule book's terms. Assumes nothing.
 use mathlib.Core.Path.{_≡_}
 use mathlib.Core.List.{List, [], _∷_}
-use Prim.Native.Nat.{ℕ, zero, suc}
+use Prim.Native.Nat.{ℕ, zero, suc, _+_, _≤_}
+use lib.ListN.{length}
 use Rattle.rules.specs.declared.Turn.{Turn}
 use Rattle.rules.specs.declared.StartAnswer.{StartAnswer}
 use Rattle.rules.specs.declared.StartAnswer.the-variants as start-case
 use Rattle.rules.specs.declared.CheckAnswer.{CheckAnswer}
 use Rattle.rules.specs.declared.MakeAnswer.{MakeAnswer}
 use Rattle.rules.specs.declared.MakeAnswer.the-variants.{Made, Refused}
-use Rattle.rules.specs.Refusals.{Told, set-tells, check-tells, make-tells, start-tells}
+use Rattle.rules.specs.declared.Intake.the-variants.{Shut}
+use Rattle.rules.specs.Refusals.{Told, Judged, set-tells, check-tells, make-tells, take-tells, start-tells}
 use Rattle.rules.specs.Priority.{slot}
 use Rattle.rules.specs.Tasks.{judge-set}
-use Rattle.rules.specs.Operations.{check-timetable, check-tables, derive, derive-output, rebuild, rebuild-output}
+use Rattle.rules.specs.Operations.{check-timetable, check-tables, output-after, derive, derive-output, rebuild, rebuild-output}
+use Rattle.rules.specs.Intake.{begun, held, joined, holding, close, rebuild-held, rebuild-held-output, intake-from, intake-numbers}
 use Rattle.rules.specs.Dispatcher.{numbers, begin, go-on}
 use Rattle.numbers.specs.Numbers.{set-from, state-from}
 
@@ -66,6 +69,38 @@ Derived image old-output = Written (derive image old-output) (derive-output imag
 
 abbrev pub Rebuilt : List ℕ → List ℕ → ℕ → ℕ → List ℕ → ℕ → List ℕ → Type 0
 Rebuilt image old-output = Written (rebuild image old-output) (rebuild-output image old-output)
+
+-- what `hv_intake_begin` leaves in the intake's two numbers, whatever they were
+abbrev pub IntakeBegun : List ℕ → Type 0
+IntakeBegun numbers = numbers ≡ intake-numbers begun
+
+-- two numbers hold the front of a buffer where the first is 1 and the second, the count, is not above the buffer's length
+pub record Holds (numbers buffer : List ℕ) : Type 0 where
+  pub is-open : slot numbers 0 ≡ 1
+  pub inside : slot numbers 1 ≤ length buffer
+
+-- and a fragment fits behind it where the count with the fragment's length is not above the buffer's
+pub record Fits (numbers buffer fragment : List ℕ) : Type 0 where
+  pub is-open : slot numbers 0 ≡ 1
+  pub room : slot numbers 1 + length fragment ≤ length buffer
+
+-- what taking a fragment returns and leaves in the two numbers and in every byte of the buffer, by what it comes to: the joined bytes, or 20
+pub record Taken (after : Judged (List ℕ)) (old-buffer : List ℕ) (number : ℕ) (numbers buffer : List ℕ) : Type 0 where
+  pub its-number : number ≡ take-tells (holding after) .number
+  pub its-numbers : numbers ≡ intake-numbers (holding after)
+  pub its-buffer : buffer ≡ output-after after old-buffer
+
+pub record FragmentTaken (old-numbers old-buffer fragment : List ℕ) (number : ℕ) (numbers buffer : List ℕ) : Type 0 where
+  pub taken : Taken (joined (intake-from old-numbers) old-buffer fragment) old-buffer number numbers buffer
+
+-- what the two closing calls return and leave; the intake is shut, whatever they answer
+pub record IntakeClosed (old-numbers buffer : List ℕ) (old-length number : ℕ) (location : List ℕ) (length : ℕ) (numbers : List ℕ) : Type 0 where
+  pub told : MakeTold (close (intake-from old-numbers) buffer) old-length number location length
+  pub its-numbers : numbers ≡ intake-numbers Shut
+
+pub record IntakeRebuilt (old-numbers buffer old-output : List ℕ) (old-length number : ℕ) (location : List ℕ) (length : ℕ) (output numbers : List ℕ) : Type 0 where
+  pub written : Written (rebuild-held (held (intake-from old-numbers) buffer) old-output) (rebuild-held-output (held (intake-from old-numbers) buffer) old-output) old-length number location length output
+  pub its-numbers : numbers ≡ intake-numbers Shut
 
 -- the start afterwards: task, job, cycle and absolute time, or what it held where the answer is a refusal
 abbrev pub start-or : StartAnswer → List ℕ → List ℕ

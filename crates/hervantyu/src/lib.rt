@@ -1,16 +1,19 @@
 // The C face: the names of include/hervantyu.h, over the proved crates. Each function returns the refusal's number, 0 where there is none, and stores its
 // place, and for an image the record's byte offset behind it, where they are lent; on a refusal nothing else that was lent changes, but for the dispatcher's
-// state.
+// state and the intake's.
 use numbers::NUMBERS;
 use rules::CheckAnswer;
+use rules::Intake;
 use rules::Located;
 use rules::MakeAnswer;
 use rules::SetAnswer;
 use rules::StartAnswer;
+use rules::TOO_LONG;
 ghost use mathlib.Core.Path.{_≡_};
 ghost use Rattle.rules.specs.Refusals.{tells-refusal, start-tells};
+ghost use Rattle.rules.specs.Intake.{intake-from, intake-numbers};
 ghost use Rattle.hervantyu.specs.Lent.{location-of, SetJudged, CheckTold, TimetableChecked, TablesChecked, MakeTold, Derived, Rebuilt};
-ghost use Rattle.hervantyu.specs.Lent.{StartTold, Begun, GoneOn};
+ghost use Rattle.hervantyu.specs.Lent.{IntakeBegun, FragmentTaken, IntakeClosed, IntakeRebuilt, StartTold, Begun, GoneOn};
 
 #[no_mangle]
 pub extern "C" fn hv_judge_set(
@@ -112,6 +115,74 @@ pub extern "C" fn hv_rebuild(
     ensures { λ r. ⌜ Rebuilt (now (image .entry)) (now (out .entry)) (now (length .entry)) r (now (location .exit)) (now (length .exit)) (now (out .exit)) ⌝ }
 {
     told_make(rebuilding::rebuild(image, out), location, length)
+}
+
+// The intake that two numbers are.
+fn intake_from(numbers: &[u64; 2]) -> Intake
+    ensures { λ k. ⌜ k ≡ intake-from (now (numbers .entry)) ⌝ }
+{
+    if numbers[0] == 1 {
+        return Intake::Open(numbers[1] as usize);
+    }
+    Intake::Shut
+}
+
+// The two numbers that an intake is.
+fn intake_numbers(k: Intake) -> [u64; 2]
+    ensures { λ r. ⌜ r ≡ intake-numbers k ⌝ }
+{
+    match k {
+        Intake::Shut => [0u64; 2],
+        Intake::Open(count) => [1, count as u64],
+    }
+}
+
+#[no_mangle]
+pub extern "C" fn hv_intake_begin(k: &mut [u64; 2])
+    ensures { λ _. ⌜ IntakeBegun (now (k .exit)) ⌝ }
+{
+    *k = intake_numbers(intake::begin());
+}
+
+#[no_mangle]
+pub extern "C" fn hv_intake_take(k: &mut [u64; 2], buffer: &mut [u8], fragment: &[u8]) -> u32
+    ensures { λ r. ⌜ FragmentTaken (now (k .entry)) (now (buffer .entry)) (now (fragment .entry)) r (now (k .exit)) (now (buffer .exit)) ⌝ }
+{
+    let after = intake::take(intake_from(k), buffer, fragment);
+    *k = intake_numbers(after);
+    match after {
+        Intake::Shut => TOO_LONG.number,
+        Intake::Open(_) => 0,
+    }
+}
+
+#[no_mangle]
+pub extern "C" fn hv_intake_close(
+    k: &mut [u64; 2],
+    buffer: &[u8],
+    location: &mut [u64; 2],
+    length: &mut u64,
+) -> u32
+    ensures { λ r. ⌜ IntakeClosed (now (k .entry)) (now (buffer .entry)) (now (length .entry)) r (now (location .exit)) (now (length .exit)) (now (k .exit)) ⌝ }
+{
+    let answer = intake::close(intake_from(k), buffer);
+    *k = intake_numbers(Intake::Shut);
+    told_make(answer, location, length)
+}
+
+#[no_mangle]
+pub extern "C" fn hv_intake_rebuild(
+    k: &mut [u64; 2],
+    buffer: &[u8],
+    out: &mut [u8],
+    location: &mut [u64; 2],
+    length: &mut u64,
+) -> u32
+    ensures { λ r. ⌜ IntakeRebuilt (now (k .entry)) (now (buffer .entry)) (now (out .entry)) (now (length .entry)) r (now (location .exit)) (now (length .exit)) (now (out .exit)) (now (k .exit)) ⌝ }
+{
+    let answer = intake::rebuild(intake_from(k), buffer, out);
+    *k = intake_numbers(Intake::Shut);
+    told_make(answer, location, length)
 }
 
 // What beginning or going on answered, told through the start.

@@ -13,6 +13,7 @@ pub mod Image
 pub mod Framing
 pub mod Located
 pub mod Operations
+pub mod Intake
 pub mod Offsets
 pub mod Dispatcher
 pub mod Calls

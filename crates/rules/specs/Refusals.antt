@@ -12,6 +12,8 @@ use Rattle.rules.specs.declared.CheckAnswer.{CheckAnswer}
 use Rattle.rules.specs.declared.CheckAnswer.the-variants as check-case
 use Rattle.rules.specs.declared.MakeAnswer.{MakeAnswer}
 use Rattle.rules.specs.declared.MakeAnswer.the-variants as make-case
+use Rattle.rules.specs.declared.Intake.{Intake}
+use Rattle.rules.specs.declared.Intake.the-variants as intake-case
 use Rattle.rules.specs.declared.StartAnswer.{StartAnswer}
 use Rattle.rules.specs.declared.StartAnswer.the-variants as start-case
 
@@ -81,7 +83,7 @@ tells values = record { number = 0; place = 0; offset = 0; values = values }
 abbrev pub tells-refusal : Located → Told
 tells-refusal r = record { number = r .number; place = r .place; offset = r .offset; values = [] }
 
--- a set in memory has no bytes
+-- a set in memory has no bytes, and 20 of an intake is of no image
 abbrev pub of-no-image : Refusal → Located
 of-no-image r = record { number = r .number; place = r .place; offset = 0 }
 
@@ -99,6 +101,11 @@ check-tells (check-case.Refused r) = tells-refusal r
 abbrev pub make-tells : MakeAnswer → Told
 make-tells (make-case.Made length) = tells (length ∷ [])
 make-tells (make-case.Refused r) = tells-refusal r
+
+-- taking a fragment tells how many bytes are taken by then; an intake that is shut after it has refused it, with 20
+abbrev pub take-tells : Intake → Told
+take-tells (intake-case.Open count) = tells (count ∷ [])
+take-tells intake-case.Shut = tells-refusal (of-no-image (refusal 20 0))
 
 -- the dispatcher tells task, job, cycle and absolute time
 abbrev pub start-tells : StartAnswer → Told

@@ -123,6 +123,12 @@ pub enum MakeAnswer {
     Refused(Located),
 }
 
+// An intake of fragments: shut, or open with so many bytes taken.
+pub enum Intake {
+    Shut,
+    Open(usize),
+}
+
 // A job that starts now: its cycle and absolute time.
 pub struct Start {
     pub task: u32,
