@@ -51,7 +51,10 @@ read_one() {
             sub(/^.*\/(proofs|src)\//, "", path)
             sub(/(\/[A-Za-z]+)?\.antt$/, "", path)
             sub(/^.*:[0-9]+:[0-9]+: error: /, "")
-            if (!of_shape($0)) facts[path]++
+            said = $0
+            # What a record lacks stands on the next line where its name is long.
+            if (said ~ /: record `[^`]*`$/ && (getline behind) > 0) said = said behind
+            if (!of_shape(said)) facts[path]++
         }
         # A function without a proof file, which search alone proves.
         /^fn .*: no proof: .*`search` does not close/ {

@@ -4,7 +4,7 @@ use mathlib.Core.Logic.{_↔_, _⊎_, inl, inr}
 use mathlib.Core.List.{List, [], _∷_, _++_, append-assoc}
 use Prim.Native.Nat.{ℕ, _+_, _-_, _≤_, _<_}
 use native.Mathlib.Omega.{arith}
-use lib.ListN.{length, getD, take, drop, length-append}
+use lib.ListN.{length, getD, take, drop}
 use lib.Seq.{length-take-le}
 use borrow.Author.Tests.{eq-eqb, ne-eqb}
 use Rattle.rules.specs.declared.Refusal.{Refusal}
@@ -19,7 +19,7 @@ use Rattle.rules.specs.Operations.{check-tables, output-after}
 use Rattle.rules.specs.Intake.{held, join, joined, holding, accepted-length, close-held, rebuild-held, rebuild-held-output, intake-from, intake-numbers, Takes}
 use Rattle.rules.proofs.Cases.{by-eq, by-le}
 use Rattle.rules.proofs.Arrays.{slot-element}
-use Rattle.intake.proofs.Fragments.{within-inside, within-above, into-fits, into-not}
+use Rattle.intake.proofs.Fragments.{within-inside, within-above, into-fits, into-not, joined-length}
 use Rattle.hervantyu.specs.Lent.{Holds, Fits, TablesChecked, CheckTold, length-or, MakeTold, Written, Rebuilt, Taken, FragmentTaken, IntakeClosed, IntakeRebuilt}
 use Rattle.hervantyu.proofs.ToldAnswers.{make-told}
 use Rattle.hervantyu.proofs.Returned.{zero-exactly, refused-with}
@@ -44,6 +44,11 @@ open-numbers numbers e = sym (open-from numbers (slot-element numbers 0 ∙ e) �
 pub shut-numbers : (numbers : List ℕ) → (getD numbers 0 0 ≡ 1 → ⊥) → Shut ≡ intake-from numbers
 shut-numbers numbers e = rw (ne-eqb (slot numbers 0) 1 (λ z. e (sym (slot-element numbers 0) ∙ z)))
 
+-- they are open and have room for so many bytes, or not
+by-room : {A : Type 0} (numbers : List ℕ) (many room : ℕ) → (slot numbers 0 ≡ 1 → many ≤ room → A) → ((slot numbers 0 ≡ 1 → many ≤ room → ⊥) → A) → A
+by-room numbers many room p q =
+    by-eq (slot numbers 0) 1 (λ e. by-le many room (λ l. p e l) (λ l. q (λ _ m. absurd (omega (arith, l, m))))) (λ e. q (λ o _. e o))
+
 module _ (numbers buffer : List ℕ) where
   -- they hold the front of the buffer up to the count
   pub holds-front : Holds numbers buffer → held (intake-from numbers) buffer ≡ gives (take (slot numbers 1) buffer)
@@ -61,9 +66,7 @@ module _ (numbers buffer : List ℕ) where
 
   pub by-holds : {A : Type 0} → (Holds numbers buffer → A) → ((Holds numbers buffer → ⊥) → A) → A
   by-holds p q =
-      by-eq (slot numbers 0) 1
-      (λ e. by-le (slot numbers 1) (length buffer) (λ l. p (record { is-open = e; inside = l })) (λ l. q (λ h. absurd (omega (arith, l, h .inside)))))
-      (λ e. q (λ h. e (h .is-open)))
+      by-room numbers (slot numbers 1) (length buffer) (λ e l. p (record { is-open = e; inside = l })) (λ no-room. q (λ h. no-room (h .is-open) (h .inside)))
 
 -- a fragment taken by the intake that two numbers are, and told of the intake afterwards
 pub taken-so : {numbers buffer fragment numbers′ buffer′ : List ℕ} {number : ℕ} {k after : Intake} → k ≡ intake-from numbers →
@@ -110,18 +113,13 @@ module _ {numbers buffer fragment numbers′ buffer′ : List ℕ} {r : ℕ} (ta
   refused-shut e = taken-not (on-held e)
 
   -- it fits behind the count, and then it stands there and all other bytes are kept; or it is refused
-  held-long : Holds numbers buffer → length (take (slot numbers 1) buffer ++ fragment) ≡ slot numbers 1 + length fragment
-  held-long h =
-      length-append (take (slot numbers 1) buffer) fragment
-      ∙ ap (λ (n : ℕ). n + length fragment) (length-take-le (slot numbers 1) buffer (h .inside))
-
   pub fits-behind : Fits numbers buffer fragment →
       (r ≡ 0)
       × (numbers′ ≡ 1 ∷ (slot numbers 1 + length fragment) ∷ [])
       × (buffer′ ≡ take (slot numbers 1) buffer ++ (fragment ++ drop (slot numbers 1 + length fragment) buffer))
   fits-behind f =
       let h : Holds numbers buffer = record { is-open = f .is-open; inside = omega (arith, f .room) } in
-      let long = held-long h in
+      let long = joined-length (slot numbers 1) buffer fragment (h .inside) in
       let (zero, counted, put) = joins (holds-front numbers buffer h) (omega (arith, f .room, long)) in (
         zero,
         counted ∙ ap (λ (n : ℕ). 1 ∷ n ∷ []) long,
@@ -137,17 +135,14 @@ module _ {numbers buffer fragment numbers′ buffer′ : List ℕ} {r : ℕ} (ta
       overflows (holds-front numbers buffer h)
       (by-le (slot numbers 1 + length fragment) (length buffer)
       (λ l. absurd (not (record { is-open = h .is-open; room = l })))
-      (λ l. omega (arith, l, held-long h))))
+      (λ l. omega (arith, l, joined-length (slot numbers 1) buffer fragment (h .inside)))))
       (λ none. refused-shut (holds-nothing numbers buffer none))
 
   pub by-fit : {A : Type 0} → (Fits numbers buffer fragment → A) → ((Fits numbers buffer fragment → ⊥) → A) → A
   by-fit p q =
-      by-eq (slot numbers 0) 1
-      (λ e.
-      by-le (slot numbers 1 + length fragment) (length buffer)
-      (λ l. p (record { is-open = e; room = l }))
-      (λ l. q (λ f. absurd (omega (arith, l, f .room)))))
-      (λ e. q (λ f. e (f .is-open)))
+      by-room numbers (slot numbers 1 + length fragment) (length buffer)
+      (λ e l. p (record { is-open = e; room = l }))
+      (λ no-room. q (λ f. no-room (f .is-open) (f .room)))
 
   -- so 0 is returned exactly where it fits, else 20
   pub take-zero : (r ≡ 0) ↔ Fits numbers buffer fragment

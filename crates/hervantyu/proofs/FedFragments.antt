@@ -55,6 +55,15 @@ log-shut log = log-held log ∙ sym (stands log .holds)
 pub log-front : {bytes numbers buffer : List ℕ} → IntakeLog (gives bytes) numbers buffer → take (length bytes) buffer ≡ bytes
 log-front {bytes} {numbers} {buffer} log = held-front bytes buffer (stands log .holds)
 
+-- a log goes on with a fragment that fits, or with one that does not
+module _ {bytes numbers buffer fragment numbers′ buffer′ : List ℕ} {number : ℕ} (log : IntakeLog (gives bytes) numbers buffer)
+    (taken : FragmentTaken numbers buffer fragment number numbers′ buffer′) where
+  took-fits : length (bytes ++ fragment) ≤ length buffer → IntakeLog (gives (bytes ++ fragment)) numbers′ buffer′
+  took-fits l = subst (λ (z : Judged (List ℕ)). IntakeLog z numbers′ buffer′) (into-fits (length buffer) (bytes ++ fragment) l) (took log fragment taken)
+
+  took-past : length buffer < length (bytes ++ fragment) → IntakeLog shut numbers′ buffer′
+  took-past l = subst (λ (z : Judged (List ℕ)). IntakeLog z numbers′ buffer′) (into-not (length buffer) (bytes ++ fragment) l) (took log fragment taken)
+
 -- fragments, however they are cut: together they fit
 fed : {fragments : List (List ℕ)} {numbers buffer numbers′ buffer′ : List ℕ} → Feeds fragments numbers buffer numbers′ buffer′ → (bytes : List ℕ) →
     length (bytes ++ whole fragments) ≤ length buffer → IntakeLog (gives bytes) numbers buffer → IntakeLog (gives (bytes ++ whole fragments)) numbers′ buffer′
@@ -63,9 +72,8 @@ fed (feeds {fragment} {numbers} {buffer} {numbers′} {buffer′} {numbers″} {
     let assoc = append-assoc bytes fragment (whole fragments) in
     let room : length ((bytes ++ fragment) ++ whole fragments) ≤ length buffer = rw assoc l in
     let fits : length (bytes ++ fragment) ≤ length buffer = omega (arith, room, length-append (bytes ++ fragment) (whole fragments)) in
-    let next =
-    subst (λ (z : Judged (List ℕ)). IntakeLog z numbers′ buffer′) (into-fits (length buffer) (bytes ++ fragment) fits) (took log fragment taken) in
-    subst (λ (xs : List ℕ). IntakeLog (gives xs) numbers″ buffer″) assoc (fed more (bytes ++ fragment) (rw (same-length (takes taken)) room) next)
+    subst (λ (xs : List ℕ). IntakeLog (gives xs) numbers″ buffer″) assoc
+    (fed more (bytes ++ fragment) (rw (same-length (takes taken)) room) (took-fits log taken fits))
 
 pub fed-whole : {fragments : List (List ℕ)} {numbers buffer numbers′ buffer′ : List ℕ} → IntakeBegun numbers → Feeds fragments numbers buffer numbers′ buffer′ →
     length (whole fragments) ≤ length buffer → IntakeLog (gives (whole fragments)) numbers′ buffer′
@@ -84,12 +92,8 @@ fed-past (feeds {fragment} {numbers} {buffer} {numbers′} {buffer′} {numbers�
     by-le (length (bytes ++ fragment)) (length buffer)
     (λ fits.
     let past : length buffer < length ((bytes ++ fragment) ++ whole fragments) = rw (append-assoc bytes fragment (whole fragments)) m in
-    let next =
-    subst (λ (z : Judged (List ℕ)). IntakeLog z numbers′ buffer′) (into-fits (length buffer) (bytes ++ fragment) fits) (took log fragment taken) in
-    fed-past more (bytes ++ fragment) (rw (same-length (takes taken)) fits) (rw (same-length (takes taken)) past) next)
-    (λ past.
-    fed-shut more
-    (subst (λ (z : Judged (List ℕ)). IntakeLog z numbers′ buffer′) (into-not (length buffer) (bytes ++ fragment) past) (took log fragment taken)))
+    fed-past more (bytes ++ fragment) (rw (same-length (takes taken)) fits) (rw (same-length (takes taken)) past) (took-fits log taken fits))
+    (λ past. fed-shut more (took-past log taken past))
 
 pub fed-too-long : {fragments : List (List ℕ)} {numbers buffer numbers′ buffer′ : List ℕ} → IntakeBegun numbers →
     Feeds fragments numbers buffer numbers′ buffer′ → length buffer < length (whole fragments) → IntakeLog shut numbers′ buffer′

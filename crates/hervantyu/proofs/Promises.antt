@@ -462,6 +462,13 @@ module _ {image old-start : List ℕ} {r : ℕ} {w start state : List ℕ} (begu
   pub begin-refused-leaves : 1 ≤ r → (start ≡ old-start) × (state ≡ replicate number-count 0)
   begin-refused-leaves = face-turns.begin-leaves begun
 
+-- R-1: on the front of a buffer whose close returned 0 it returns 0, so that an image that was accepted there runs
+pub accepted-begins : {bytes numbers buffer : List ℕ} → Bytes bytes → IntakeLog (gives bytes) numbers buffer → {w numbers′ : List ℕ} {old-length l : ℕ} →
+    IntakeClosed numbers buffer old-length 0 w l numbers′ → {old-start location start state : List ℕ} {r : ℕ} →
+    Begun (take l buffer) old-start r location start state → r ≡ 0
+accepted-begins {bytes} b log closing g =
+    begin-accepted-exactly (begins-as-joined log closing g) b .1 (tables-accepted-exactly bytes (closes-as-joined log closing .0) b .0 refl)
+
 -- DEMAND 1, hv_go_on
 
 module _ (image old-state : List ℕ) (end : ℕ) {old-start start state : List ℕ} {r : ℕ}

@@ -11,6 +11,7 @@ use rules::StartAnswer;
 use rules::TOO_LONG;
 ghost use mathlib.Core.Path.{_≡_};
 ghost use Rattle.rules.specs.Refusals.{tells-refusal, start-tells};
+ghost use Rattle.rules.specs.declared.Intake.the-variants as book-intake;
 ghost use Rattle.rules.specs.Intake.{intake-from, intake-numbers};
 ghost use Rattle.hervantyu.specs.Lent.{location-of, SetJudged, CheckTold, TimetableChecked, TablesChecked, MakeTold, Derived, Rebuilt};
 ghost use Rattle.hervantyu.specs.Lent.{IntakeBegun, FragmentTaken, IntakeClosed, IntakeRebuilt, StartTold, Begun, GoneOn};
@@ -137,6 +138,16 @@ fn intake_numbers(k: Intake) -> [u64; 2]
     }
 }
 
+// Shuts an intake's two numbers. What it answers is the intake that they were.
+fn shut(k: &mut [u64; 2]) -> Intake
+    ensures before { λ r. ⌜ r ≡ intake-from (now (k .entry)) ⌝ }
+    ensures after { λ _. ⌜ now (k .exit) ≡ intake-numbers book-intake.Shut ⌝ }
+{
+    let before = intake_from(k);
+    *k = intake_numbers(Intake::Shut);
+    before
+}
+
 #[no_mangle]
 pub extern "C" fn hv_intake_begin(k: &mut [u64; 2])
     ensures { λ _. ⌜ IntakeBegun (now (k .exit)) ⌝ }
@@ -165,9 +176,7 @@ pub extern "C" fn hv_intake_close(
 ) -> u32
     ensures { λ r. ⌜ IntakeClosed (now (k .entry)) (now (buffer .entry)) (now (length .entry)) r (now (location .exit)) (now (length .exit)) (now (k .exit)) ⌝ }
 {
-    let answer = intake::close(intake_from(k), buffer);
-    *k = intake_numbers(Intake::Shut);
-    told_make(answer, location, length)
+    told_make(intake::close(shut(k), buffer), location, length)
 }
 
 #[no_mangle]
@@ -180,9 +189,7 @@ pub extern "C" fn hv_intake_rebuild(
 ) -> u32
     ensures { λ r. ⌜ IntakeRebuilt (now (k .entry)) (now (buffer .entry)) (now (out .entry)) (now (length .entry)) r (now (location .exit)) (now (length .exit)) (now (out .exit)) (now (k .exit)) ⌝ }
 {
-    let answer = intake::rebuild(intake_from(k), buffer, out);
-    *k = intake_numbers(Intake::Shut);
-    told_make(answer, location, length)
+    told_make(intake::rebuild(shut(k), buffer, out), location, length)
 }
 
 // What beginning or going on answered, told through the start.

@@ -46,6 +46,11 @@ into-fits room bytes l = rw (le-leb (length bytes) room l)
 pub into-not : (room : ℕ) (bytes : List ℕ) → room < length bytes → into room bytes ≡ refuses (refusal 20 0)
 into-not room bytes l = rw (lt-leb (length bytes) room l)
 
+-- the front of a buffer with a fragment behind it
+pub joined-length : (count : ℕ) (buffer fragment : List ℕ) → count ≤ length buffer → length (take count buffer ++ fragment) ≡ count + length fragment
+joined-length count buffer fragment l =
+    length-append (take count buffer) fragment ∙ ap (λ (n : ℕ). n + length fragment) (length-take-le count buffer l)
+
 module _ (k : Intake) (buffer fragment : List ℕ) where
   -- nothing is joined to what a shut intake holds
   pub joined-shut : within k (length buffer) ≡ Shut → joined k buffer fragment ≡ refuses (refusal 20 0)
@@ -56,7 +61,7 @@ module _ (k : Intake) (buffer fragment : List ℕ) where
     inside = within-open k (length buffer) count is-open .1
 
     together : length (take count buffer ++ fragment) ≡ count + length fragment
-    together = length-append (take count buffer) fragment ∙ ap (λ (n : ℕ). n + length fragment) (length-take-le count buffer inside)
+    together = joined-length count buffer fragment inside
 
     opened : joined k buffer fragment ≡ into (length buffer) (take count buffer ++ fragment)
     opened = ap (join (length buffer) fragment) (held-open k buffer count is-open)

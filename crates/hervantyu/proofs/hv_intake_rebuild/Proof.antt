@@ -1,4 +1,4 @@
--- `hervantyu::hv_intake_rebuild` meets its contract: it tells what closing answers and writes, and shuts the intake. Assumes nothing.
+-- `hervantyu::hv_intake_rebuild` meets its contract: it tells what closing answers and writes, and the intake is shut. Assumes nothing.
 use mathlib.Core.Path.{_∙_, ap}
 use borrow.Author.Needs.{needs}
 use Rattle.rules.specs.declared.Intake.{Intake}
@@ -7,14 +7,11 @@ use Rattle.hervantyu.proofs.ToldAnswers.{make-told}
 use Rattle.hervantyu.proofs.hv_intake_rebuild.Statement.{statement}
 use Rattle.hervantyu.proofs.hv_intake_rebuild.Tie as tie
 
-intake-from-requires : tie.Need-intake-from-requires
-intake-from-requires c κs = search needs
+shut-requires : tie.Need-shut-requires
+shut-requires c κs = search needs
 
 rebuild-requires : tie.Need-rebuild-requires
 rebuild-requires c κs = search needs
-
-intake-numbers-requires : tie.Need-intake-numbers-requires
-intake-numbers-requires c κs = search needs
 
 told-make-requires : tie.Need-told-make-requires
 told-make-requires c κs = search needs
@@ -24,26 +21,18 @@ same-length c = search needs
 
 returns : tie.Need-returns
 returns c =
-    let numbered = c .before .before .before in
-    let closing = numbered .before .before .before in
+    let closing = c .before .before .before .before .before in
     let args = closing .before .before .before .before .before .before .args in
-    let is = closing .before .before .intake-from .ensures in
+    let was = closing .before .before .shut .ensures in
     let made = closing .rebuild .ensures in
     record {
       written = record {
-        told = make-told (made .answer ∙ ap (λ (k : Intake). rebuild-held (held k (args .buffer .now)) (args .out .now)) is) (c .told-make .ensures);
-        its-output = made .output ∙ ap (λ (k : Intake). rebuild-held-output (held k (args .buffer .now)) (args .out .now)) is;
+        told = make-told (made .answer ∙ ap (λ (k : Intake). rebuild-held (held k (args .buffer .now)) (args .out .now)) (was .0)) (c .told-make .ensures);
+        its-output = made .output ∙ ap (λ (k : Intake). rebuild-held-output (held k (args .buffer .now)) (args .out .now)) (was .0);
       };
-      its-numbers = numbered .intake-numbers .ensures;
+      its-numbers = was .1;
     }
 
 pub hv-intake-rebuild-spec : {M : Type 1} → statement M
 hv-intake-rebuild-spec =
-    tie.close
-    (tie.spec
-    intake-from-requires
-    rebuild-requires
-    intake-numbers-requires
-    told-make-requires
-    same-length
-    returns)
+    tie.close (tie.spec shut-requires rebuild-requires told-make-requires same-length returns)
