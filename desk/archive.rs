@@ -27,6 +27,15 @@ extern "C" {
         told: *mut Where,
         length: *mut u64,
     ) -> u32;
+    fn hv_figures(
+        images: *const u8,
+        len: usize,
+        figures: *mut i64,
+        room: usize,
+        told: *mut Where,
+        count: *mut u64,
+        used: *mut u64,
+    ) -> u32;
 }
 
 type Turn = unsafe extern "C" fn(*const u8, usize, *mut u8, usize, *mut Where, *mut u64) -> u32;
@@ -38,6 +47,10 @@ type Where = [u64; 2];
 pub const LONGEST_ACCEPTED: usize = 5 + 16 * 18 + 4_096 * (8 + 9) + 6;
 
 const SLOTS: usize = 16;
+
+/// No image has more figures: three of its ticks, one a task, an interval with jobs and one without for each
+/// of 4,096 jobs, and one without at the end.
+const MOST_FIGURES: usize = 3 + SLOTS + 2 * 4_096 + 1;
 
 #[derive(Clone, Copy, PartialEq, Eq, Debug)]
 pub enum Kind {
@@ -110,6 +123,21 @@ pub fn derive(image: &[u8]) -> Result<Vec<u8>, Refusal> {
 /// The timetable image of a table image.
 pub fn rebuild(image: &[u8]) -> Result<Vec<u8>, Refusal> {
     turn(hv_rebuild, image)
+}
+
+/// The figures of the table image at the front of a line, and how many bytes it has.
+pub fn figures(images: &[u8]) -> Result<(Vec<i64>, usize), Refusal> {
+    let mut figures = vec![0; MOST_FIGURES];
+    let (mut told, mut count, mut used) = ([0; 2], 0, 0);
+    // SAFETY: images and figures are as many as is said, and no two regions overlap.
+    let number = unsafe {
+        let (room, to) = (figures.len(), figures.as_mut_ptr());
+        let (images, len) = (images.as_ptr(), images.len());
+        hv_figures(images, len, to, room, &mut told, &mut count, &mut used)
+    };
+    verdict(number, told)?;
+    figures.truncate(count as usize);
+    Ok((figures, used as usize))
 }
 
 /// The hyperperiod and the jobs a cycle of a set of tasks, each O, C, T, D; none where it is refused.

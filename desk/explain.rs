@@ -9,8 +9,8 @@ use crate::archive::{Kind, Refusal};
 use crate::records::decode;
 use crate::wording::{by, Explanation};
 
-/// The most bytes that a listing is made of.
-pub const LONGEST_LISTED: usize = 65_536;
+/// The most bytes of an image that is listed or reported.
+pub const LONGEST_PRINTED: usize = 65_536;
 
 /// What a refusal of these bytes means.
 pub fn explain(bytes: &[u8], kind: Kind, refusal: Refusal) -> Explanation {
@@ -27,7 +27,10 @@ pub fn explain(bytes: &[u8], kind: Kind, refusal: Refusal) -> Explanation {
         17 => table_record(&image, refusal),
         18 => late(&image, refusal.place),
         19 => without_effect(&image, refusal),
-        20 => Some(too_long()),
+        20 => Some(too_long(
+            "file",
+            format!("an image of at most {LONGEST_PRINTED} bytes is listed"),
+        )),
         _ => None,
     };
     found.unwrap_or_else(|| unknown(refusal))
@@ -46,10 +49,11 @@ fn unknown(refusal: Refusal) -> Explanation {
     }
 }
 
-fn too_long() -> Explanation {
+/// What is longer than a program takes.
+pub fn too_long(what: &str, rule: String) -> Explanation {
     Explanation {
-        place: "the file as a whole".into(),
-        rule: format!("an image of at most {LONGEST_LISTED} bytes is listed"),
+        place: format!("the {what} as a whole"),
+        rule,
         broken: vec![by(1, "there are more: at least 1 too many".into())],
         before: None,
     }

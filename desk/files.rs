@@ -16,20 +16,42 @@ pub enum Content {
     TooLong,
 }
 
-/// The content of a file, of at most so many bytes.
-pub fn read(name: &OsStr, most: usize) -> Result<Content, String> {
-    let reason = |error| format!("{}: {}", shown(name), reason(&error, "read"));
+/// A file that is being read.
+pub struct Source {
+    name: OsString,
+    reader: Box<dyn Read>,
+}
+
+pub fn open(name: &OsStr) -> Result<Source, String> {
     if name != "-" && Path::new(name).is_dir() {
         return Err(format!("{}: {FOLDER}", shown(name)));
     }
-    let mut content = Vec::new();
-    let bound = most as u64 + 1;
-    if name == "-" {
-        io::stdin().lock().take(bound).read_to_end(&mut content)
-    } else {
-        File::open(name).and_then(|file| file.take(bound).read_to_end(&mut content))
+    let reader: Box<dyn Read> = match name == "-" {
+        true => Box::new(io::stdin().lock()),
+        false => Box::new(File::open(name).map_err(|error| unread(name, &error))?),
+    };
+    let name = name.to_os_string();
+    Ok(Source { name, reader })
+}
+
+impl Source {
+    /// Reads so many bytes more behind what is there, fewer where the file ends; gives whether it did.
+    pub fn read_on(&mut self, most: usize, content: &mut Vec<u8>) -> Result<bool, String> {
+        let reader = &mut self.reader;
+        let read = reader.take(most as u64).read_to_end(content);
+        let read = read.map_err(|error| unread(&self.name, &error))?;
+        Ok(read < most)
     }
-    .map_err(reason)?;
+}
+
+fn unread(name: &OsStr, error: &io::Error) -> String {
+    format!("{}: {}", shown(name), reason(error, "read"))
+}
+
+/// The content of a file, of at most so many bytes.
+pub fn read(name: &OsStr, most: usize) -> Result<Content, String> {
+    let mut content = Vec::new();
+    open(name)?.read_on(most + 1, &mut content)?;
     Ok(match content.len() > most {
         true => Content::TooLong,
         false => Content::Whole(content),

@@ -1,27 +1,32 @@
-//! The desk program `hv`: schedule images checked, turned into each other, listed, shown, drawn and
-//! compared. `help.txt` is its manual.
+//! The desk program `hv`: schedule images checked, turned into each other, listed, shown, drawn,
+//! compared and reported on. `help.txt` is its manual.
 
 mod about_framing;
 mod about_sets;
 mod about_tables;
 mod about_timetables;
 mod archive;
+mod axes;
 mod draw;
 mod explain;
 mod files;
+mod line;
 mod list;
 mod messages;
 mod records;
 mod replay;
+mod report;
 mod rows;
 mod show;
 mod why;
 mod wording;
 
 use archive::{Kind, Refusal};
-use explain::LONGEST_LISTED;
+use axes::Axis;
+use explain::LONGEST_PRINTED;
 use files::{shown, Content, MOST_READ};
-use messages::Asked;
+use line::Line;
+use messages::{Asked, TOO_LONG};
 use records::{decode, kind_of};
 use std::ffi::{OsStr, OsString};
 use std::process::ExitCode;
@@ -37,6 +42,8 @@ struct Order {
     files: Vec<OsString>,
     plain: bool,
     kind: Option<Kind>,
+    /// Whether the command's own option is given.
+    own: bool,
 }
 
 /// What a command comes to: a text for each stream, and the exit status.
@@ -48,16 +55,20 @@ struct Told {
 
 type Command = fn(&Order) -> Result<Told, String>;
 
-/// Each command with the files that it takes.
-const COMMANDS: [(&str, &[&str], Command); 7] = [
-    ("check", &["FILE"], check),
-    ("derive", &["FILE", "OUT"], derive),
-    ("rebuild", &["FILE", "OUT"], rebuild),
-    ("list", &["FILE"], list),
-    ("show", &["FILE"], show),
-    ("draw", &["FILE", "OUT.svg"], draw),
-    ("why", &["FILE", "CHANGED"], why),
+/// Each command with the files that it takes, `MORE` for any number of one or more, and the option of its own.
+const COMMANDS: [(&str, &[&str], &str, Command); 8] = [
+    ("check", &["FILE"], NONE, check),
+    ("derive", &["FILE", "OUT"], NONE, derive),
+    ("rebuild", &["FILE", "OUT"], NONE, rebuild),
+    ("list", &["FILE"], NONE, list),
+    ("show", &["FILE"], NONE, show),
+    ("draw", &["FILE", "OUT.svg"], "--intervals", draw),
+    ("why", &["FILE", "CHANGED"], NONE, why),
+    ("report", &[MORE], "--csv", report),
 ];
+
+const MORE: &str = "FILE...";
+const NONE: &str = "";
 
 fn main() -> ExitCode {
     let words: Vec<OsString> = std::env::args_os().skip(1).collect();
@@ -94,12 +105,16 @@ fn run(words: &[OsString]) -> Result<Told, String> {
         return Ok(said(HELP.to_string(), ACCEPTED));
     }
     let known = COMMANDS.iter().find(|(name, ..)| command == *name);
-    let Some((name, wanted, function)) = known else {
+    let Some((name, wanted, own, function)) = known else {
         let command = shown(command);
         return Err(format!("there is no command '{command}'\n{}", usage()));
     };
-    let order = order(words)?;
-    if order.files.len() != wanted.len() {
+    let order = order(words, own)?;
+    let enough = match *wanted {
+        [MORE] => !order.files.is_empty(),
+        _ => order.files.len() == wanted.len(),
+    };
+    if !enough {
         let wanted = wanted.join(" ");
         return Err(format!("the command is: hv {name} {wanted}\n{}", usage()));
     }
@@ -112,18 +127,24 @@ fn is_help(word: &OsString) -> bool {
 
 fn usage() -> String {
     let mut text = String::from("usage:\n");
-    for (name, files, _) in COMMANDS {
-        text += &format!("  hv {name} {}\n", files.join(" "));
+    for (name, files, own, _) in COMMANDS {
+        let files = files.join(" ");
+        text += &match own {
+            NONE => format!("  hv {name} {files}\n"),
+            own => format!("  hv {name} [{own}] {files}\n"),
+        };
     }
     text + "  hv help\noptions: --plain, --kind 1|2; '-' is standard input or output\n"
 }
 
-/// The files and options in the words behind a command; behind `--` every word is a file.
-fn order(words: &[OsString]) -> Result<Order, String> {
+/// The files and options in the words behind a command with this option of its own; behind `--` every word is
+/// a file.
+fn order(words: &[OsString], own: &str) -> Result<Order, String> {
     let mut order = Order {
         files: Vec::new(),
         plain: false,
         kind: None,
+        own: false,
     };
     let mut words = words.iter();
     while let Some(word) = words.next() {
@@ -131,6 +152,7 @@ fn order(words: &[OsString]) -> Result<Order, String> {
             "--plain" => order.plain = true,
             "--kind" => order.kind = Some(kind_from(words.next())?),
             "--" => order.files.extend(words.by_ref().cloned()),
+            option if option == own && own != NONE => order.own = true,
             option if option.starts_with('-') && option != "-" => {
                 return Err(format!("there is no option '{}'\n{}", shown(word), usage()));
             }
@@ -271,19 +293,14 @@ fn rebuild(order: &Order) -> Result<Told, String> {
 
 /// A listing's own text is document 01's, refusals too; the words about a refusal go to standard error.
 fn list(order: &Order) -> Result<Told, String> {
-    let too_long = Refusal {
-        number: 20,
-        place: 0,
-        offset: 0,
-    };
-    let (bytes, asked, made) = match files::read(&order.files[0], LONGEST_LISTED)? {
-        Content::TooLong => (Vec::new(), as_kind(Kind::Tables), Err(too_long)),
+    let (bytes, asked, made) = match files::read(&order.files[0], LONGEST_PRINTED)? {
+        Content::TooLong => (Vec::new(), as_kind(Kind::Tables), Err(TOO_LONG)),
         Content::Whole(bytes) => {
             let asked = order.asked(&bytes);
             let made = match asked.kind {
                 Kind::Tables => archive::rebuild(&bytes),
                 Kind::Timetable => match archive::derive(&bytes) {
-                    Ok(tables) if tables.len() > LONGEST_LISTED => Err(too_long),
+                    Ok(tables) if tables.len() > LONGEST_PRINTED => Err(TOO_LONG),
                     Ok(tables) => archive::rebuild(&tables),
                     Err(refusal) => Err(refusal),
                 },
@@ -327,7 +344,9 @@ fn draw(order: &Order) -> Result<Told, String> {
         };
         let name = shown(&order.files[0]);
         let summary = messages::summary(asked.kind, &bytes);
-        let picture = draw::picture(&name, &summary, &decode(timetable), &decode(tables));
+        let axis = order.own.then(|| Axis::of_accepted(tables));
+        let (timetable, tables) = (decode(timetable), decode(tables));
+        let picture = draw::picture(&name, &summary, &timetable, &tables, axis.as_ref());
         (picture.into_bytes(), "picture")
     });
     order.hand_over(&bytes, asked, made)
@@ -373,4 +392,45 @@ fn timetable(kind: Kind, bytes: &[u8]) -> Result<Vec<u8>, Refusal> {
         Kind::Timetable => archive::check(kind, bytes).map(|()| bytes.to_vec()),
         Kind::Tables => archive::rebuild(bytes),
     }
+}
+
+/// Each file is a line of table images. A refused image ends its own line, since nobody can tell where the next
+/// one would begin; with `--plain` it ends the report, as in the documents.
+fn report(order: &Order) -> Result<Told, String> {
+    let asked = order.always(Kind::Tables)?;
+    if order.files.iter().filter(|name| *name == "-").count() > 1 {
+        return Err("only one of the lines can be standard input".to_string());
+    }
+    let (mut rows, mut plain, mut words) = (Vec::new(), String::new(), String::new());
+    for (index, name) in order.files.iter().enumerate() {
+        let mut line = Line::new(files::open(name)?);
+        while let Some(next) = line.next()? {
+            match next {
+                Ok(axis) => {
+                    plain += &report::lines(&axis);
+                    let (file, image) = (shown(name), line.images - 1);
+                    rows.push(report::Row { file, image, axis });
+                }
+                Err(refusal) => {
+                    plain += &(messages::refused_line(refusal) + "\n");
+                    let file = (index, order.files.len());
+                    words += &report::refused(&shown(name), file, line, asked, refusal)?;
+                    break;
+                }
+            }
+        }
+        if order.plain && !words.is_empty() {
+            break;
+        }
+    }
+    let status = if words.is_empty() { ACCEPTED } else { REFUSED };
+    Ok(match (order.plain, order.own) {
+        (true, _) => said(plain, status),
+        (_, false) => said(report::table(&rows) + &words, status),
+        (_, true) => Told {
+            out: report::csv(&rows),
+            complaint: words,
+            status,
+        },
+    })
 }

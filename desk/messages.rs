@@ -4,7 +4,7 @@ use crate::archive::{derive, Kind, Refusal};
 use crate::explain::explain;
 use crate::records::{decode, Set};
 use crate::rows::rows;
-use crate::wording::{many, ticks};
+use crate::wording::{many, ticks, Explanation};
 
 /// The kind that an image is asked as, and whether the file or the user named it.
 #[derive(Clone, Copy)]
@@ -12,6 +12,13 @@ pub struct Asked {
     pub kind: Kind,
     pub named: bool,
 }
+
+/// What the listing and the report give by themselves, for what is longer than they take.
+pub const TOO_LONG: Refusal = Refusal {
+    number: 20,
+    place: 0,
+    offset: 0,
+};
 
 /// The documents' line for a verdict.
 pub fn plain(bytes: &[u8], verdict: Result<(), Refusal>) -> String {
@@ -30,18 +37,20 @@ pub fn refused_line(refusal: Refusal) -> String {
 
 /// A verdict on a named image, in words.
 pub fn verdict(name: &str, bytes: &[u8], asked: Asked, verdict: Result<(), Refusal>) -> String {
-    let kind = asked.kind.name();
     match verdict {
         Ok(()) => format!(
-            "{name}: accepted as a {kind} image: {}\n",
+            "{name}: accepted as a {} image: {}\n",
+            asked.kind.name(),
             summary(asked.kind, bytes)
         ),
-        Err(refusal) => {
-            let line = refused_line(refusal);
-            let told = explanation(bytes, asked, refusal);
-            format!("{name}: {line}, asked as a {kind} image\n{told}")
-        }
+        Err(refusal) => refused_as(name, asked, refusal) + &explanation(bytes, asked, refusal),
     }
+}
+
+/// The first line about a refusal of a named image.
+pub fn refused_as(name: &str, asked: Asked, refusal: Refusal) -> String {
+    let (line, kind) = (refused_line(refusal), asked.kind.name());
+    format!("{name}: {line}, asked as a {kind} image\n")
 }
 
 /// What an accepted image holds.
@@ -65,6 +74,10 @@ pub fn summary(kind: Kind, bytes: &[u8]) -> String {
 /// The lines below a refusal's own.
 pub fn explanation(bytes: &[u8], asked: Asked, refusal: Refusal) -> String {
     let told = explain(bytes, asked.kind, refusal);
+    explained_lines(bytes, asked, refusal, told)
+}
+
+pub fn explained_lines(bytes: &[u8], asked: Asked, refusal: Refusal, told: Explanation) -> String {
     let mut lines = vec![format!("  place   {}", told.place)];
     let rows = refusal.byte().map(|byte| rows(bytes, byte));
     let rows = rows.iter().flatten();

@@ -1,4 +1,4 @@
-/* Hervantyu: schedule images judged, derived, rebuilt and dispatched from, for the far end of the cable.
+/* Hervantyu: schedule images judged, derived, rebuilt, dispatched from and measured, for the far end of the cable.
  *
  * Every function but hv_intake_begin, which refuses nothing, returns the number of the refusal, 0 where nothing is refused. A function that judges an image
  * stores in where[0] the refusal's place and in where[1] the byte offset, in that image, of the record that the place names; both are 0 where nothing is
@@ -23,7 +23,7 @@
  * The numbers and the order in which they come:
  *   1, 2, 3, 4, 5, 10   framing of the whole image, record by record: fewer than two bytes left or bytes end before EN (1), a mark that is not allowed
  *                       there (2), a body that is cut (1), edition not 1 (3), not the kind wanted (4), n not 1 to 16 (5), EN's number wrong or bytes
- *                       behind EN (10)
+ *                       behind EN (10); hv_figures takes an image up to its EN, so that its 10 is a wrong number alone
  *   6, 7, 8, 9          the task set: tasks in turn by 6 (its own rule) and 7 (its period below the one before), then hyperperiod above 65,535 (8), more
  *                       than 4,096 jobs a cycle (9)
  *   11 to 16            the entries of a timetable in turn: task number (11), too many jobs (12), before release (13), overlap (14), late (15); then a
@@ -162,6 +162,24 @@ uint32_t hv_intake_close(struct hv_intake *HV_RESTRICT k, const uint8_t *HV_REST
  * of out, *length is its length, and the bytes of out behind it keep their values. Whatever it answers, both numbers of *k are 0 after it. */
 uint32_t hv_intake_rebuild(struct hv_intake *HV_RESTRICT k, const uint8_t *HV_RESTRICT buffer, uint64_t room, uint8_t *HV_RESTRICT out, uint64_t out_room,
                            uint64_t where[HV_LENT(2)], uint64_t *HV_RESTRICT length);
+
+/* The figures of an axis, for hosts: how full the cycle of a table image is. A machine has a line of axes, whose images stand one behind the other: bytes
+ * behind an EN begin the next image. The figures are, in this order:
+ *   - busy ticks, forced idle (idle ticks at which a job is released and not started) and other idle; they add up to the hyperperiod;
+ *   - of each task the lateness of its worst job, end less deadline: 0 or below;
+ *   - of each interval of the cycle its spare capacity, which may be below 0. An interval ends at a deadline, begins at the later of the least release of the
+ *     jobs that are due then and the end of the interval before, and holds these jobs; a stretch of the cycle outside of these is an interval without jobs. The
+ *     capacity is the length less the declared times of its jobs, plus the next interval's capacity where that is below 0.
+ * There are 3 + n + intervals figures: at most an interval with jobs and one without for each of 4,096 jobs, and one without at the end. */
+#define HV_FIGURES_MOST (3 + 16 + 2 * 4096 + 1)
+
+/* Stores the figures of the table image at the front of images, which is judged up to its EN as hv_check_tables judges an image; bytes behind EN are left
+ * alone. Gives 1 to 10, 17, 18, 19, then 20 where there are more than room figures. A place and a byte offset count from the front of images. Where nothing is
+ * refused the figures fill the front of figures, *count is how many they are, *used is how many bytes the image has, EN among them, and the numbers of figures
+ * behind them keep their values. The next image of the line begins at images[*used]; where *used is len the line is over.
+ * It rebuilds the timetable on its stack, some 32 KiB: no function for a drive. */
+uint32_t hv_figures(const uint8_t *HV_RESTRICT images, uint64_t len, int64_t *HV_RESTRICT figures, uint64_t room, uint64_t where[HV_LENT(2)],
+                    uint64_t *HV_RESTRICT count, uint64_t *HV_RESTRICT used);
 
 #ifdef __cplusplus
 }

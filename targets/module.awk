@@ -1,9 +1,10 @@
 # awk -f module.awk MODULE.ll: looks through the text of the module for all that would make it another program on a processor whose pointers have 32 bits, and
 # for a function that comes to call itself where a drive can reach it. Tells each on a line, and then how much it looked at; fails where it told one.
 #
-# Every instruction has to be one that is known here: none makes a pointer of a number or a number of a pointer, compares two, or chooses between two; a move has
-# a constant length. There is no global, no type with a name, nothing passed by value. Offsets are bytes that are written out, so a slice keeps its 16 bytes,
-# pointer at 0 and length at 8, on every processor: bytes 4 to 7 are then there and without meaning. So no place may be a pointer and a number as well.
+# Every instruction has to be one that is known here: none makes a pointer of a number or a number of a pointer, compares two, or chooses between two; a move
+# and a clearing have a constant length. There is no global, no type with a name, nothing passed by value. Offsets are bytes that are written out, so a slice
+# keeps its 16 bytes, pointer at 0 and length at 8, on every processor: bytes 4 to 7 are then there and without meaning. So no place may be a pointer and a
+# number as well.
 #
 # A place is a byte behind a root: an alloca, a parameter, or another value that is a pointer. getelementptr by a constant goes from place to place; a move joins
 # the places of its two sides, a call those of argument and parameter. Told are: places that were joined and of which one is a byte of a pointer and another one
@@ -49,6 +50,14 @@ function access(type, value,    i) {
     for (i = 0; i < bytes[type] && offset + i < most; i++) { marks++; mark[marks] = root SUBSEP (offset + i); kind[marks] = type == "ptr" ? "byte " i " of a pointer" : "a number"; where[marks] = name }
 }
 
+# Bytes that are cleared are numbers from then on.
+function clear(to, length_,    i) {
+    clears++
+    if ((name, to) in one) tell(name ": an alloca of a pointer is cleared: " $0)
+    find(to); reach(root, offset + length_)
+    for (i = 0; i < length_ && offset + i < most; i++) { marks++; mark[marks] = root SUBSEP (offset + i); kind[marks] = "a number"; where[marks] = name }
+}
+
 function move(to, from, length_,    to_root, to_offset, i) {
     moves++
     if ((name, to) in one || (name, from) in one) tell(name ": an alloca of a pointer is moved: " $0)
@@ -79,7 +88,7 @@ function call(text,    callee, count, i, word) {
 }
 
 /^$/ || /^;/ || /^source_filename = / || /^target (datalayout|triple) = / || /^attributes #[0-9]+ = / || /^![a-z0-9.]+ = !\{/ { next }
-/^declare void @llvm\.memmove\.p0\.p0\.i64\(/ || /^declare void @llvm\.trap\(\)/ || /^declare i[0-9]+ @llvm\.(cttz|ctlz|ctpop)\.i[0-9]+\(/ { next }
+/^declare void @llvm\.memmove\.p0\.p0\.i64\(/ || /^declare void @llvm\.memset\.p0\.i64\(/ || /^declare void @llvm\.trap\(\)/ || /^declare i[0-9]+ @llvm\.(cttz|ctlz|ctpop)\.i[0-9]+\(/ { next }
 
 /^define / {
     if (in_function || $0 !~ /^define (internal )?(noundef )?(zeroext )?(void|i1|i8|i16|i32|i64) @("[^"]+"|[A-Za-z0-9_]+)\(.*\) #0 \{$/) unknown()
@@ -123,6 +132,9 @@ function call(text,    callee, count, i, word) {
 }
 /^call void @llvm\.memmove\.p0\.p0\.i64\(ptr %[^ ]+, ptr %[^ ]+, i64 [0-9]+, i1 false\)$/ {
     parts($0); sub(/^ptr /, "", part[1]); sub(/^ptr /, "", part[2]); sub(/^i64 /, "", part[3]); move(part[1], part[2], part[3] + 0); next
+}
+/^call void @llvm\.memset\.p0\.i64\(ptr %[^ ]+, i8 0, i64 [0-9]+, i1 false\)$/ {
+    parts($0); sub(/^ptr /, "", part[1]); sub(/^i64 /, "", part[3]); clear(part[1], part[3] + 0); next
 }
 /^(%[^ ]+ = )?call (void|i1|i8|i16|i32|i64|zeroext i1) @/ { call($0); next }
 /^%[^ ]+ = (add|sub|mul|shl)( nuw)?( nsw)? i[0-9]+ [^ ]+, [^ ]+$/ || /^%[^ ]+ = (udiv|sdiv|urem|srem|lshr|ashr|and|or|xor)( exact| disjoint)? i[0-9]+ [^ ]+, [^ ]+$/ { next }
@@ -171,6 +183,6 @@ END {
     count = split(drives, list, " ")
     for (i = 1; i <= count; i++) if (list[i] in defined) walk(list[i], "\n"); else tell("the module has no " list[i])
     if (!functions || !accesses || !moves || !calls || !pointers) tell("there was too little to look at")
-    print functions + 0 " functions, " accesses + 0 " accesses, " moves + 0 " moves, " calls + 0 " calls, " pointers + 0 " bytes of pointers: " faults + 0 " told"
+    print functions + 0 " functions, " accesses + 0 " accesses, " moves + 0 " moves, " clears + 0 " clearings, " calls + 0 " calls, " pointers + 0 " bytes of pointers: " faults + 0 " told"
     exit faults > 0
 }

@@ -68,6 +68,15 @@ extern "C" {
         location: *mut u64,
         length: *mut u64,
     ) -> u32;
+    pub fn hv_figures(
+        images: *const u8,
+        len: usize,
+        figures: *mut i64,
+        room: usize,
+        location: *mut u64,
+        count: *mut u64,
+        used: *mut u64,
+    ) -> u32;
 }
 
 /// A function that checks an image.
@@ -130,6 +139,9 @@ pub type Intake = [u64; 2];
 
 /// What a close gives: the stored length, and the bytes of the output up to it where one is lent.
 pub type Closed = (u64, Vec<u8>);
+
+/// The figures of an image, and how many bytes it has.
+pub type Figures = (Vec<i64>, usize);
 
 // ---- The calls ----
 
@@ -258,6 +270,35 @@ fn turn(case: &dyn Display, function: Turn, room: usize, image: &[u8]) -> Result
         out.demand_kept(written as usize, case, "the output");
         answer(number, &location, case)?;
         Ok(out.content()[..written as usize].to_vec())
+    })
+}
+
+/// The figures of the table image at the front of some bytes, stored in an output of `room` of them.
+pub fn figures(case: &dyn Display, room: usize, images: &[u8]) -> Result<Figures, Refusal> {
+    twice(case, |filling| {
+        let mut lent = Lent::new(images, filling);
+        let mut out = Lent::<i64>::filled(room, filling);
+        let mut location = Lent::<u64>::filled(2, filling);
+        let mut count = Lent::<u64>::filled(1, filling);
+        let mut used = Lent::<u64>::filled(1, filling);
+        // SAFETY: images and output have as many bytes and figures as is said, and no two regions overlap.
+        let number = unsafe {
+            let (from, to, at) = (lent.pointer(), out.pointer(), location.pointer());
+            let (c, u) = (count.pointer(), used.pointer());
+            hv_figures(from, images.len(), to, room, at, c, u)
+        };
+        let stored = usize::from(number == 0);
+        lent.demand_kept(0, case, "the line of images");
+        count.demand_kept(stored, case, "the count");
+        used.demand_kept(stored, case, "the image's length");
+        let written = if number == 0 { count.content()[0] } else { 0 };
+        demand(written <= room as u64, case, "the count is above the room");
+        out.demand_kept(written as usize, case, "the figures");
+        answer(number, &location, case)?;
+        let used = used.content()[0];
+        let within = used <= images.len() as u64;
+        demand(within, case, "the image is longer than the bytes");
+        Ok((out.content()[..written as usize].to_vec(), used as usize))
     })
 }
 
@@ -465,6 +506,12 @@ impl Unit for u32 {
 impl Unit for u64 {
     fn of(filling: u8) -> u64 {
         u64::from_ne_bytes([filling; 8])
+    }
+}
+
+impl Unit for i64 {
+    fn of(filling: u8) -> i64 {
+        i64::from_ne_bytes([filling; 8])
     }
 }
 

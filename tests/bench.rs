@@ -1,7 +1,7 @@
 //! Measures the archive and an implementation written for speed side by side, on valid timetables
 //! with forced idles and inversions that are made from a fixed seed, on their tables, and on
 //! dispatching from these; beside them, for accepting tables, one that need not keep the archive's
-//! limits; and taking fragments beside copying them.
+//! limits; taking fragments beside copying them; and the figures of a line of images.
 
 #[allow(dead_code)]
 mod archive;
@@ -9,15 +9,21 @@ mod archive;
 #[path = "independent/chance.rs"]
 mod chance;
 #[allow(dead_code)]
+mod draws;
+#[allow(dead_code)]
 mod fast;
 mod making;
+#[allow(dead_code)]
+mod periods;
 
 use archive::{Check, Turn, NUMBERS};
 use chance::Chance;
+use draws::{Job, Set, MOST_JOBS, TASKS};
 use fast::dispatcher::{self, Start, State};
-use fast::{intake, unlimited, Refusal};
+use fast::{intake, spare, unlimited, Refusal};
 use making::{common_multiple, image_of, made, tasks_of, timetable, SEED, SETS};
 use std::hint::black_box;
+use std::io::{stdin, stdout, Read, Write};
 use std::time::{Duration, Instant};
 
 const ROUNDS: usize = 101;
@@ -30,6 +36,12 @@ const CYCLES: usize = 3;
 const FRAGMENTS: [usize; 3] = [8, 64, 4_096];
 const BUFFER: usize = 65_536;
 
+/// A line has so many images, of which so many are different, and so much room for the figures of one.
+const IMAGES: usize = 10_000;
+const DIFFERENT: usize = 1_000;
+const FIGURES: usize = 8_212;
+const LINE_ROUNDS: usize = 3;
+
 fn main() {
     let mut chance = Chance::new(SEED);
     let asked: Vec<String> = std::env::args().skip(1).collect();
@@ -38,13 +50,27 @@ fn main() {
         if call == "take" {
             return repeat_take(side, set, times);
         }
+        if call == "figures" {
+            return repeat_figures(side, set, times);
+        }
         return repeat(call, side == "archive", set, times);
+    }
+    if let [call, images] = &asked[..] {
+        assert_eq!(call, "line", "there is no such call");
+        let line = line(images.parse().expect("a number"));
+        return stdout().write_all(&line).expect("the output takes bytes");
     }
     if asked == ["learnt"] {
         return learnt();
     }
     if asked == ["take"] {
         return take();
+    }
+    if asked == ["figures"] {
+        return figures();
+    }
+    if asked == ["report"] {
+        return report();
     }
     println!(
         "archive/fast  call    tasks  jobs idles  inversions  bytes  archive ns   fast ns  \
@@ -475,6 +501,149 @@ fn repeat_take(side: &str, bytes: usize, times: usize) {
     }
 }
 
+// ---- Figures ----
+
+/// A line of so many images: sets like document 000's, as many of each number of tasks, with their timetables
+/// by priority or, where that is late, by CW-EDF; the different ones again and again.
+fn line(images: usize) -> Vec<u8> {
+    let mut chance = Chance::new(SEED);
+    let mut out = vec![0; ROOM];
+    let mut different = Vec::new();
+    for tasks in TASKS.cycle().take(DIFFERENT) {
+        let (set, jobs) = with_timetable(&mut chance, tasks);
+        let length = fast::derive(&set.image(&jobs), &mut out).expect("the image is good");
+        different.extend(&out[..length]);
+    }
+    different.repeat(images / DIFFERENT)
+}
+
+/// Stores the figures of the image at the front; gives back how many they are and how many bytes it has.
+type Figures = fn(&[u8], &mut [i64]) -> Result<(usize, usize), Refusal>;
+
+const FIGURES_OF: [(&str, Figures); 2] = [("archive", archive_figures), ("fast", spare::figures)];
+
+fn archive_figures(images: &[u8], out: &mut [i64]) -> Result<(usize, usize), Refusal> {
+    let (mut location, mut count, mut used) = ([0; 2], 0, 0);
+    let (from, len, at) = (images.as_ptr(), images.len(), location.as_mut_ptr());
+    let (to, room) = (out.as_mut_ptr(), out.len());
+    // SAFETY: images and output have as many bytes and figures as is said, and no two regions overlap.
+    match unsafe { archive::hv_figures(from, len, to, room, at, &mut count, &mut used) } {
+        0 => Ok((count as usize, used as usize)),
+        number => Err(refusal(number, location)),
+    }
+}
+
+/// Asks for the figures of image after image; gives back how many images and figures they were.
+fn go_along(figures: Figures, line: &[u8], out: &mut [i64]) -> Result<(usize, usize), Refusal> {
+    let (mut images, mut all) = (0, 0);
+    let mut rest = line;
+    while !rest.is_empty() {
+        let (count, used) = figures(rest, out)?;
+        images += 1;
+        all += count;
+        rest = &rest[used..];
+    }
+    Ok((images, all))
+}
+
+/// The images a second of both sides, whose figures have to be the same.
+fn figures() {
+    let line = line(IMAGES);
+    let (mut one, mut other) = (vec![0; FIGURES], vec![0; FIGURES]);
+    let mut rest = &line[..line.len() / (IMAGES / DIFFERENT)];
+    while !rest.is_empty() {
+        let told = archive_figures(rest, &mut one);
+        assert_eq!(told, spare::figures(rest, &mut other));
+        assert!(one == other, "the figures differ");
+        rest = &rest[told.expect("the image is good").1..];
+    }
+    let (images, all) = go_along(spare::figures, &line, &mut one).expect("the line is good");
+    assert_eq!(images, IMAGES);
+    let sides = FIGURES_OF.map(|(_, figures)| -> Call {
+        let (line, mut out) = (&line, vec![0; FIGURES]);
+        Box::new(move || go_along(figures, black_box(line), &mut out).is_ok())
+    });
+    let times = in_turn(sides.into(), LINE_ROUNDS);
+    let per_image = |many: usize| many as f64 / images as f64;
+    let [archive, fast] = [0, 1].map(|side| images as f64 / times[side] * 1e9);
+    println!(
+        "archive/fast  images  bytes an image  figures an image  archive images/s  fast images/s"
+    );
+    println!(
+        "{:>12.2}  {images:>6}  {:>14.0}  {:>16.0}  {archive:>16.0}  {fast:>13.0}",
+        fast / archive,
+        per_image(line.len()),
+        per_image(all),
+    );
+}
+
+/// Goes along a line of so many images so many times by one side: for counting what is executed.
+fn repeat_figures(side: &str, images: usize, times: usize) {
+    let known = FIGURES_OF.into_iter().find(|(name, _)| *name == side);
+    let (_, figures) = known.expect("there is such a side");
+    let (line, mut out) = (line(images), vec![0; FIGURES]);
+    for _ in 0..times {
+        let answer = go_along(figures, black_box(&line), &mut out);
+        assert!(answer.is_ok(), "an image that was good is refused");
+    }
+}
+
+/// The report of a good line on standard input, written for speed.
+fn report() {
+    let (mut line, mut out) = (Vec::new(), vec![0; FIGURES]);
+    stdin()
+        .read_to_end(&mut line)
+        .expect("the input gives bytes");
+    let mut text = Vec::with_capacity(2 * BUFFER);
+    let mut rest = &line[..];
+    while !rest.is_empty() {
+        let (count, used) = spare::figures(rest, &mut out).expect("the image is good");
+        out[..count]
+            .iter()
+            .for_each(|figure| put_line(&mut text, *figure));
+        rest = &rest[used..];
+        if text.len() >= BUFFER || rest.is_empty() {
+            stdout().write_all(&text).expect("the output takes bytes");
+            text.clear();
+        }
+    }
+}
+
+/// Puts a figure behind the text, as a line.
+fn put_line(text: &mut Vec<u8>, figure: i64) {
+    let mut digits = [b'\n'; 21];
+    let mut first = 20;
+    let mut left = figure.unsigned_abs();
+    loop {
+        first -= 1;
+        digits[first] = b'0' + (left % 10) as u8;
+        left /= 10;
+        if left == 0 {
+            break;
+        }
+    }
+    if figure < 0 {
+        text.push(b'-');
+    }
+    text.extend_from_slice(&digits[first..]);
+}
+
+/// A set within the limits, and its timetable by priority, else by CW-EDF without the inversions that can be
+/// taken out.
+fn with_timetable(chance: &mut Chance, tasks: usize) -> (Set, Vec<Job>) {
+    loop {
+        let set = Set::draw(chance, tasks);
+        if set.jobs() > MOST_JOBS || set.busy() > set.hyperperiod {
+            continue;
+        }
+        let by_priority = set.timetable(Set::by_priority);
+        let by_cw_edf = || set.timetable(Set::by_cw_edf).map(|jobs| set.swapped(jobs));
+        if let Some(jobs) = by_priority.or_else(by_cw_edf) {
+            return (set, jobs);
+        }
+    }
+}
+
 // ---- Time ----
 
 /// A call that is to succeed.
@@ -482,10 +651,15 @@ type Call<'a> = Box<dyn FnMut() -> bool + 'a>;
 
 /// The least times of all sides in nanoseconds a call, measured in turn: what else runs on the machine only
 /// adds to a time.
-fn side_by_side(mut sides: Vec<Call>) -> Vec<f64> {
+fn side_by_side(sides: Vec<Call>) -> Vec<f64> {
+    in_turn(sides, ROUNDS)
+}
+
+/// The same over so many rounds.
+fn in_turn(mut sides: Vec<Call>, rounds: usize) -> Vec<f64> {
     let calls: Vec<u32> = sides.iter_mut().map(calls_in_a_round).collect();
     let mut times = vec![Vec::new(); sides.len()];
-    for _ in 0..ROUNDS {
+    for _ in 0..rounds {
         for (i, side) in sides.iter_mut().enumerate() {
             times[i].push(round(side, calls[i]));
         }

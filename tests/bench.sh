@@ -8,11 +8,13 @@
 # With `sets` as its argument it times judging 4,000 candidate sets of each kind beside two plain ways,
 # linked and run alike. With `learnt` as its argument it times deriving over one image and over many in
 # turn, linked once. With `take` it times taking fragments of 8, 64 and 4,096 bytes until a buffer of 65,536
-# is full, beside the same written for speed and beside memcpy, linked once.
+# is full, beside the same written for speed and beside memcpy, linked once. With `line` it times the figures of a
+# line of 10,000 images, linked once, and the report program on that line beside a report written for speed.
 # With `instructions` as its argument it counts those executed instead, into which neither the processor
 # nor what else it does comes: an emulator (Debian's qemu-user) runs the program and a plugin counts. With
-# `instructions sets` it counts those of judging a candidate set, the mean over 400, and with `instructions
-# take` those of taking one fragment, the mean over a buffer.
+# `instructions sets` it counts those of judging a candidate set, the mean over 400, with `instructions take`
+# those of taking one fragment, the mean over a buffer, and with `instructions line` those of the figures and
+# the report of one image, the mean over the line.
 set -eu
 
 tests=$(cd "$(dirname "$0")" && pwd)
@@ -26,16 +28,41 @@ trap 'rm -rf "$built"' EXIT
 counted() {
     program=$1
     shift
-    COUNTED="$built/counted" qemu-x86_64 -plugin "$built/count.so" "$built/$program" "$@"
+    COUNTED="$built/counted" qemu-x86_64 -plugin "$built/count.so" "$program" "$@"
     cat "$built/counted"
 }
 
 # Prints how many it executes for one call with these arguments, behind which stands how many times: half
 # the difference between one time and three.
 executed() {
-    once=$(counted "$@" 1)
-    thrice=$(counted "$@" 3)
+    program=$1
+    shift
+    once=$(counted "$built/$program" "$@" 1)
+    thrice=$(counted "$built/$program" "$@" 3)
     echo "$(((thrice - once) / 2))"
+}
+
+# Makes the line of $1 images, and demands that the report program and the one written for speed write the same lines for it.
+make_line() {
+    report=$tests/../target/bin/report
+    test -f "$report" || { echo "no program at $report" >&2; exit 1; }
+    run "$built/bench" line "$1" >"$built/line"
+    run "$report" <"$built/line" >"$built/lines"
+    run "$built/bench" report <"$built/line" | cmp - "$built/lines" || { echo "the reports differ" >&2; exit 1; }
+}
+
+# Prints how many instructions a program executes for the line with these arguments.
+reported() {
+    counted "$@" <"$built/line" | tail -n 1
+}
+
+# Prints how many nanoseconds a program takes for the line with these arguments, the least of three times.
+least_time() {
+    for round in 1 2 3; do
+        began=$(date +%s%N)
+        run "$@" <"$built/line" >/dev/null
+        echo "$(($(date +%s%N) - began))"
+    done | sort -n | head -n 1
 }
 
 # Compiles a program of this folder with the archive.
@@ -89,6 +116,15 @@ if test "${1:-}" = instructions; then
         done
         exit
     fi
+    if test "${2:-}" = line; then
+        make_line 1000
+        echo "archive/fast  call     images     archive        fast"
+        {
+            for side in archive fast; do executed bench figures "$side" 1000; done | paste -s | sed 's/^/figures /'
+            echo "report $(reported "$report") $(reported "$built/bench" report)"
+        } | awk 'NF != 3 { exit 1 } { printf "%12.2f  %-8s %6d  %10d  %10d\n", $2 / $3, $1, 1000, $2 / 1000, $3 / 1000 }'
+        exit
+    fi
     echo "archive/fast  call     tasks  jobs     archive        fast"
     for shape in "0 2 256" "1 2 1024" "2 2 4096" "3 16 256" "4 16 1024" "5 16 4096"; do
         # Unquoted: the set's number among the program's, its tasks and its jobs.
@@ -114,6 +150,19 @@ if test "${1:-}" = learnt || test "${1:-}" = take; then
     # Unquoted: one word for each of the compiler's.
     compile bench $branches
     run "$built/bench" "$1"
+    exit
+fi
+
+if test "${1:-}" = line; then
+    # Unquoted: one word for each of the compiler's.
+    compile bench $branches
+    run "$built/bench" figures
+    # The report program is for x86-64: beside an archive for the host's own processor it is not timed.
+    test -z "${HV_NATIVE:-}" || exit 0
+    make_line 10000
+    echo "report/fast  images  report images/s  fast images/s"
+    echo "$(least_time "$report") $(least_time "$built/bench" report)" |
+        awk '{ printf "%11.2f  %6d  %15d  %13d\n", $1 / $2, 10000, 1e13 / $1, 1e13 / $2 }'
     exit
 fi
 

@@ -11,6 +11,7 @@ function kind_in_c(text,    kind) {
     kind = text ~ /^const / ? "const " : ""
     sub(/^const /, "", text)
     if (text ~ /^struct hv_[a-z]+ \*HV_RESTRICT [a-z]+$/ && substr(text, 8, index(text, " *") - 8) in record) return kind "pointer to " record[substr(text, 8, index(text, " *") - 8)]
+    if (text ~ /^int64_t \*HV_RESTRICT [a-z]+$/) return kind "pointer to i64"
     if (text ~ /^uint(8|32|64)_t \*HV_RESTRICT [a-z]+$/) { sub(/^uint/, "", text); return kind "pointer to u" (text + 0) }
     if (text ~ /^uint(32|64)_t [a-z]+\[HV_LENT\([0-9]+\)\]$/) { sub(/^uint/, "", text); kind = kind "pointer to "; match(text, /\([0-9]+/); return kind substr(text, RSTART + 1, RLENGTH - 1) " u" (text + 0) }
     fail("no number of 32 or 64 bits and no pointer crosses the border: " text)
@@ -24,7 +25,7 @@ function kind_in_crate(text,    kind, length_) {
     kind = text ~ /^&mut / ? "pointer to " : "const pointer to "
     if (sub(/^&mut /, "", text) || sub(/^&/, "", text)) {
         if (text ~ /^u(32|64)$/) return kind text
-        if (text == "[u8]") return kind "u8, u64"
+        if (text ~ /^\[(u8|i64)\]$/) return kind substr(text, 2, length(text) - 2) ", u64"
         if (text ~ /^\[u(32|64); [0-9A-Z]+\]$/) { length_ = text; sub(/^.*; /, "", length_); sub(/\]$/, "", length_); sub(/;.*/, "", text); return kind length_ " " substr(text, 2) }
     }
     fail("no number of 32 or 64 bits and no pointer crosses the border: " text)

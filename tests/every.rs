@@ -127,7 +127,7 @@ fn about_timetable(asking: &mut Asking, tables: Option<&Vec<u8>>, image: &[u8]) 
 }
 
 /// A table image is accepted exactly where a valid timetable has it, and is then turned into that
-/// one and dispatched so over three cycles.
+/// one, dispatched so over three cycles, and asked for its figures.
 fn about_tables(asking: &mut Asking, set: &Set, timetables: &Timetables, image: &[u8]) {
     let text = image_text(image);
     let entries = timetables.get(image);
@@ -142,6 +142,8 @@ fn about_tables(asking: &mut Asking, set: &Set, timetables: &Timetables, image: 
     demand(asking, &case, Some(&format!("ok {length} {result}")));
     let case = format!("run {} {text}", 3 * entries.len());
     demand(asking, &case, Some(&starts(set, entries)));
+    let room = 3 + set.tasks.len() + 2 * entries.len() + 1;
+    asking.ask_each(std::iter::once(format!("figures {room} {text}")));
 }
 
 /// Asks a case whose answer the search knows; none stands for a refusal.

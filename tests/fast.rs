@@ -1,9 +1,10 @@
-//! Checking and deriving, checking tables, rebuilding, taking in and dispatching, written for speed under the
+//! Checking and deriving, checking tables, rebuilding, taking in, dispatching and the figures, written for speed under the
 //! archive's limits: no heap, records read in place, no more memory than a few numbers for each task, safe
 //! code alone.
 
 pub mod dispatcher;
 pub mod intake;
+pub mod spare;
 pub mod unlimited;
 
 #[derive(Clone, Copy, PartialEq, Eq, Debug)]
@@ -51,14 +52,14 @@ pub fn derive(image: &[u8], out: &mut [u8]) -> Result<usize, Refusal> {
 /// Checks a table image.
 #[inline(never)]
 pub fn check_tables(image: &[u8]) -> Result<(), Refusal> {
-    replay(&tables_of(image)?, |_, _| {})
+    replay(&tables_of(image)?, |_, _, _| {})
 }
 
 /// Rebuilds the timetable image of a table image and gives back its length.
 #[inline(never)]
 pub fn rebuild(image: &[u8], out: &mut [u8]) -> Result<usize, Refusal> {
     let tables = tables_of(image)?;
-    replay(&tables, |_, _| {})?;
+    replay(&tables, |_, _, _| {})?;
     let front = TS + TK * tables.jobs.n;
     let length = front + SL * tables.jobs.all + EN;
     let Some(out) = out.get_mut(..length) else {
@@ -67,7 +68,7 @@ pub fn rebuild(image: &[u8], out: &mut [u8]) -> Result<usize, Refusal> {
     let (sls, en) = out[front..].split_at_mut(SL * tables.jobs.all);
     put_en(en, 1 + tables.jobs.n + tables.jobs.all);
     let mut sls = sls.chunks_exact_mut(SL);
-    replay(&tables, |slot, start| {
+    replay(&tables, |slot, start, _| {
         if let Some(sl) = sls.next() {
             put_sl(sl, slot as u8, start);
         }
@@ -626,9 +627,9 @@ struct Next {
     own: u64,
 }
 
-/// Replays the tables and calls `each` for every start: number 18, then 19.
+/// Replays the tables and calls `each` for every start, with how long the job waited: number 18, then 19.
 #[inline(always)]
-fn replay(tables: &Tables, mut each: impl FnMut(usize, u32)) -> Result<(), Refusal> {
+fn replay(tables: &Tables, mut each: impl FnMut(usize, u32, u32)) -> Result<(), Refusal> {
     let Tables { image, jobs, .. } = tables;
     let mut next: [Next; SLOTS] = std::array::from_fn(|slot| Next {
         release: jobs.tasks[slot].release,
@@ -651,7 +652,8 @@ fn replay(tables: &Tables, mut each: impl FnMut(usize, u32)) -> Result<(), Refus
         let waiting = waiting(next, instant);
         let slot = chosen(image, next, waiting, instant);
         let (task, next) = (&jobs.tasks[slot], &mut next[slot]);
-        if instant - next.release > task.slack {
+        let waited = instant - next.release;
+        if waited > task.slack {
             return refuse(18, no_record(started));
         }
         if inversion_at(image, next.pv) >> 32 == next.own >> 32 {
@@ -666,7 +668,7 @@ fn replay(tables: &Tables, mut each: impl FnMut(usize, u32)) -> Result<(), Refus
         if next.release >= jobs.hyperperiod {
             next.release = u32::MAX;
         }
-        each(slot, instant);
+        each(slot, instant, waited);
         free = instant + task.time;
         started += 1;
     }
@@ -738,6 +740,10 @@ fn put_en(en: &mut [u8], number: usize) {
 fn put_sl(sl: &mut [u8], task: u8, start: u32) {
     sl[..3].copy_from_slice(&[b'S', b'L', task]);
     sl[3..].copy_from_slice(&start.to_be_bytes());
+}
+
+fn idle_length(id: &[u8]) -> u32 {
+    u32::from(u16::from_be_bytes([id[6], id[7]]))
 }
 
 fn put_id(id: &mut [u8], start: u32, length: u32) {

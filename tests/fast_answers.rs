@@ -7,25 +7,26 @@ mod fast;
 #[allow(dead_code)]
 mod written;
 
-use archive::{Closed, Intake, Refusal, State, Step, NUMBERS};
-use fast::{dispatcher, intake, unlimited};
+use archive::{Closed, Figures, Intake, Refusal, State, Step, NUMBERS};
+use fast::{dispatcher, intake, spare, unlimited};
 use std::collections::BTreeMap;
 use std::io::{stdin, BufRead};
 use std::process::ExitCode;
 use written::{
-    archive_answer, bytes_from, calls, check_answer, go_answer, intake_answer, operation,
-    run_answer, step_text, turn_answer, Calls,
+    archive_answer, bytes_from, calls, check_answer, figures_answer, go_answer, intake_answer,
+    operation, report_answer, run_answer, step_text, turn_answer, Calls,
 };
 
-/// The operations that both have; a run is a beginning and going on.
-const BOTH: [&str; 8] = [
-    "check1", "derive", "check2", "rebuild", "begin", "go", "run", "intake",
+/// The operations that both have; a run is a beginning and going on, a report the figures of image after
+/// image.
+const BOTH: [&str; 10] = [
+    "check1", "derive", "check2", "rebuild", "begin", "go", "run", "intake", "figures", "report",
 ];
 
 /// Their calls.
-const CALLS: [&str; 10] = [
+const CALLS: [&str; 12] = [
     "check1", "derive", "check2", "rebuild", "begin", "go", "run", "intake-f", "intake-c",
-    "intake-r",
+    "intake-r", "figures", "report",
 ];
 const LAST_NUMBER: u32 = 25;
 const FILLING: u8 = 0x5A;
@@ -113,6 +114,8 @@ fn fast_answer(case: &str) -> Option<String> {
         ["go", image, state, end] => go_answer(image, state, end, go_on),
         ["run", steps, image] => run_answer(steps, image, begin, go_on),
         ["intake", length, room, ref tokens @ ..] => intake_answer(&Fast, length, room, tokens),
+        ["figures", room, images] => figures_answer(room, images, figures),
+        ["report", images] => report_answer(images, figures),
         _ => None,
     }
 }
@@ -125,19 +128,30 @@ fn told<T>(answer: Result<T, fast::Refusal>) -> Result<T, Refusal> {
     })
 }
 
-/// The result in an output of so many bytes, which has to keep the bytes behind it, and all of them
-/// on a refusal.
-fn turned(
+/// The result in an output of so many bytes or figures, which has to keep those behind it, and all of
+/// them on a refusal.
+fn turned<T: Copy + PartialEq + From<u8>>(
     room: usize,
-    turn: impl FnOnce(&mut [u8]) -> Result<usize, fast::Refusal>,
-) -> Result<Vec<u8>, Refusal> {
-    let mut out = vec![FILLING; room];
+    turn: impl FnOnce(&mut [T]) -> Result<usize, fast::Refusal>,
+) -> Result<Vec<T>, Refusal> {
+    let mut out = vec![T::from(FILLING); room];
     let answer = told(turn(&mut out));
     let written = answer.unwrap_or(0);
-    let kept = out[written..].iter().all(|byte| *byte == FILLING);
+    let kept = out[written..].iter().all(|unit| *unit == T::from(FILLING));
     assert!(kept, "written behind the result, or on a refusal");
     out.truncate(written);
     answer.map(|_| out)
+}
+
+/// The figures in an output of so many.
+fn figures(room: usize, images: &[u8]) -> Result<Figures, Refusal> {
+    let mut used = 0;
+    let figures = turned(room, |out| {
+        let (count, length) = spare::figures(images, out)?;
+        used = length;
+        Ok(count)
+    })?;
+    Ok((figures, used))
 }
 
 fn begin(image: &[u8]) -> Step {

@@ -1,6 +1,6 @@
 # Sourced by the scripts that build programs with the archive, run them or look into it: compile_c,
 # compile_rust, run and dump. The archive is for x86-64 Linux; on another processor a cross compiler builds and an
-# emulator runs. With HV_NATIVE=1 the archive or the program that is tested is for this host.
+# emulator runs, whose name is in $emulator. With HV_NATIVE=1 the archive or the program that is tested is for this host.
 
 target=x86_64-unknown-linux-gnu
 packages="gcc-x86-64-linux-gnu libc6-dev:amd64 libc6-dev-amd64-cross rustc-web \
@@ -39,7 +39,7 @@ install_cross_tools() {
 if test "$(uname -m)" = x86_64 || test -n "${HV_NATIVE:-}"; then
     compile_c() { gcc "$@"; }
     compile_rust() { rustc "$@"; }
-    run() { "$@"; }
+    emulator=
     dump() { objdump "$@"; }
 else
     cross_tools || { install_cross_tools && cross_tools; } ||
@@ -50,6 +50,9 @@ else
         "$rust_compiler" --target "$target" -C linker=x86_64-linux-gnu-gcc \
             -C target-feature=+crt-static "$@"
     }
-    run() { qemu-x86_64 "$@"; }
+    emulator=qemu-x86_64
     dump() { x86_64-linux-gnu-objdump "$@"; }
 fi
+
+# Unquoted: no word where there is no emulator.
+run() { $emulator "$@"; }

@@ -19,6 +19,9 @@ mod independent;
 mod landed;
 #[path = "refused/pages.rs"]
 mod pages;
+#[allow(dead_code)]
+#[path = "independent/spare.rs"]
+mod spare;
 
 use archive::{Refusal, State, AT_START, CYCLE, NEXT, NOW, RUNNING, TASKS, TASK_NUMBERS};
 use faces::{Archive, Face, Independent, Kind};
@@ -28,6 +31,10 @@ use std::path::Path;
 use std::process::ExitCode;
 
 const FOLDER: &str = "samples/refused";
+
+/// Room for the figures of any image.
+const MOST_FIGURES: u64 = 3 + 16 + 2 * 4_096 + 1;
+
 const NUMBERS: std::ops::RangeInclusive<u32> = 1..=25;
 
 /// A line of answers.txt: `FILE FUNCTION [NAME=VALUE ...] => ANSWER`.
@@ -130,6 +137,11 @@ fn read_cases(root: &Path) -> Result<Vec<Case>, String> {
         .collect()
 }
 
+/// Whether this is the name of a file of one image, or of a line of them.
+pub fn is_sample(name: &str) -> bool {
+    name.ends_with(".image") || name.ends_with(".images")
+}
+
 /// The bytes of a file that is named as in answers.txt.
 pub fn sample(root: &Path, file: &str) -> Result<Vec<u8>, String> {
     let path = root.join(FOLDER).join(file);
@@ -146,6 +158,10 @@ fn answer(face: &dyn Face, root: &Path, case: &Case) -> Result<String, String> {
         "hv_check_tables" => told(face.check(Kind::Tables, &image)),
         "hv_derive" => told(face.turn(Kind::Timetable, case.number_set("room")?, &image)),
         "hv_rebuild" => told(face.turn(Kind::Tables, case.number_set("room")?, &image)),
+        "hv_figures" => {
+            let room = case.number_set("room")?;
+            told(face.figures(room, behind(face, case, &image)?))
+        }
         "hv_go_on" => {
             let state = state_of(face, root, case)?;
             let (after, given) = face.go_on(&image, &state, case.number_set("end")?);
@@ -156,6 +172,19 @@ fn answer(face: &dyn Face, root: &Path, case: &Case) -> Result<String, String> {
         }
         _ => return Err(format!("no such function: {}", case.line)),
     })
+}
+
+/// What stands behind as many images of a line as a case says, behind none where it says nothing.
+fn behind<'a>(face: &dyn Face, case: &Case, images: &'a [u8]) -> Result<&'a [u8], String> {
+    let mut rest = images;
+    if case.setting("behind").is_ok() {
+        for _ in 0..case.number_set("behind")? {
+            let given = face.figures(MOST_FIGURES, rest);
+            let (_, used) = given.map_err(|_| format!("not behind an image: {}", case.line))?;
+            rest = &rest[used..];
+        }
+    }
+    Ok(rest)
 }
 
 fn told<T>(given: Result<T, Refusal>) -> String {
@@ -254,6 +283,13 @@ fn other_functions(root: &Path, case: &Case) -> Result<Vec<String>, String> {
             let stopped = ([0; archive::NUMBERS], Err(refusal));
             demand(given == stopped, "beginning gives another answer");
         }
+        // Bytes behind EN are the next image's there: answers.txt has lines of its own for 10.
+        if matches!(kind, Kind::Tables) && refusal.number != 10 {
+            for room in [0, MOST_FIGURES] {
+                let given = face.figures(room, &image);
+                demand(given == Err(refusal), "figures give another answer");
+            }
+        }
         if (5..=9).contains(&refusal.number) {
             let (n, tasks) = tasks_of(&image);
             let given = face.judge_set(n, &tasks);
@@ -292,15 +328,16 @@ fn print_questions(root: &Path) -> ExitCode {
 /// The call of a line of answers.txt as a case without its answer.
 fn question(root: &Path, case: &Case) -> Result<String, String> {
     let bytes = sample(root, &case.file)?;
-    let mut image: String = bytes.iter().map(|byte| format!("{byte:02x}")).collect();
-    if image.is_empty() {
-        image.push('-');
-    }
+    let image = hex(&bytes);
     Ok(match case.function.as_str() {
         "hv_check_timetable" => format!("check1 {image}"),
         "hv_check_tables" => format!("check2 {image}"),
         "hv_derive" => format!("derive {} {image}", case.number_set("room")?),
         "hv_rebuild" => format!("rebuild {} {image}", case.number_set("room")?),
+        "hv_figures" => {
+            let images = hex(behind(&Independent, case, &bytes)?);
+            format!("figures {} {images}", case.number_set("room")?)
+        }
         "hv_go_on" => {
             let state = state_of(&Independent, root, case)?;
             let numbers: Vec<String> = state.iter().map(u32::to_string).collect();
@@ -312,6 +349,14 @@ fn question(root: &Path, case: &Case) -> Result<String, String> {
         }
         _ => return Err(format!("no such function: {}", case.line)),
     })
+}
+
+/// Bytes in hex, `-` for none.
+fn hex(bytes: &[u8]) -> String {
+    match bytes {
+        [] => "-".to_string(),
+        _ => bytes.iter().map(|byte| format!("{byte:02x}")).collect(),
+    }
 }
 
 // ---- Whether all is there ----
@@ -334,7 +379,7 @@ fn without_sample(root: &Path, cases: &[Case]) -> Result<Vec<String>, String> {
     for entry in folder {
         let name = entry.map_err(|fault| fault.to_string())?.file_name();
         let name = name.to_string_lossy();
-        if name.ends_with(".image") && !named.contains(name.as_ref()) {
+        if is_sample(&name) && !named.contains(name.as_ref()) {
             faults.push(format!("{name} has no line in answers.txt"));
         }
     }

@@ -1,5 +1,5 @@
 #!/bin/sh
-# Runs samples/refused on the archive and on the independent implementation, and the program of
+# Runs samples/refused on the archive and on the independent implementation, and the programs of
 # docs/INTEGRATION.md; looks that the manual's pages agree with both. HV_ARCHIVE names another archive
 # than the repository's own.
 set -eu
@@ -15,19 +15,23 @@ trap 'rm -rf "$built"' EXIT
 compile_rust --edition 2021 -O -D warnings -C link-arg="$archive" -o "$built/refused" "$tests/refused.rs"
 run "$built/refused" "$tests/.."
 
-compile_c -std=c11 -Wall -Wextra -Werror -O2 -I "$tests/../include" -o "$built/manual" "$tests/c/manual.c" "$archive"
+for program in manual axes; do
+    compile_c -std=c11 -Wall -Wextra -Werror -O2 -I "$tests/../include" -o "$built/$program" "$tests/c/$program.c" "$archive"
+done
 
-# Runs the manual's program; it has to end with the given status and to write what is on standard
+# Runs a program of the manual's; it has to end with the given status and to write what is on standard
 # input.
-expect() {
-    status=$1
-    shift
+expect_of() {
+    program=$1
+    status=$2
+    shift 2
     cat >"$built/expected"
     ended=0
-    run "$built/manual" "$@" >"$built/written" || ended=$?
+    run "$built/$program" "$@" >"$built/written" || ended=$?
     diff "$built/expected" "$built/written" && test "$ended" = "$status" ||
-        { echo "manual $*: other lines, or status $ended and not $status" >&2; exit 1; }
+        { echo "$program $*: other lines, or status $ended and not $status" >&2; exit 1; }
 }
+expect() { expect_of manual "$@"; }
 
 # Document 01's lines for P2, then the next cycle's; the new image is P5, which is refused.
 expect 0 "$samples/p2.image" "$samples/refused/18-idle-too-long.image" 9 <<'LINES'
@@ -148,6 +152,14 @@ while read -r file function arrow answer; do
 done <"$samples/refused/answers.txt"
 test "$received" -gt 20 || { echo "only $received samples came in fragments" >&2; exit 1; }
 
+# The figures of a line: P2's, and those of the examples of documents 001 and 000, as docs/INTEGRATION.md and samples/README.md work them out.
+p2="14 2 4 0 -1 -13 4 2 0 -4"
+printf '%s\n' $p2 7 0 9 -4 -3 -2 -2 3 -1 2 2 2 56 1 3 0 0 -33 3 -4 1 -4 -2 -5 -5 -6 -8 -7 | expect_of axes 0 "$samples/line.images"
+printf '%s\n' $p2 'image 1, at byte 91: refused 19 4 59' | expect_of axes 1 "$samples/refused/19-second-in-a-line.images"
+printf '%s\n' $p2 'image 1, at byte 91: refused 2 0 0' | expect_of axes 1 "$samples/refused/10-checksum-behind.image"
+echo 'image 0, at byte 0: refused 1 0 0' | expect_of axes 1 "$samples/p12.image"
+echo 'image 0, at byte 0: refused 4 0 0' | expect_of axes 1 "$samples/p2.timetable.image"
+
 # Prints the archive's symbols of the given types.
 symbols() {
     nm "$archive" | awk -v types="$1" 'NF > 1 && index(types, $(NF - 1)) { print $NF }' | sort
@@ -177,7 +189,7 @@ header=$tests/../include/hervantyu.h
 crate=$tests/../crates/hervantyu/src/lib.rt
 same_border "$header" "$crate" || { cat "$built/of-header" "$built/of-crate"; echo "the header's functions are not the crate's, or have other kinds of parameters" >&2; exit 1; }
 # That test has to refuse slips: a length of a pointer's width, a narrow number, a struct by value, a narrow result, one where there is none and none where there is
-# one, a parameter too many, a place without its offset, an intake with other numbers, and the like in the crate.
+# one, a parameter too many, a place without its offset, an intake with other numbers, figures without a sign, and the like in the crate.
 slip() {
     sed "$2" "$1" >"$built/slip.${1##*.}"
     if cmp -s "$1" "$built/slip.${1##*.}"; then echo "a slip changes nothing: $2" >&2; exit 1; fi
@@ -188,13 +200,15 @@ for edit in 's/uint64_t len,/size_t len,/' 's/(uint32_t n,/(uint8_t n,/' 's/(str
     's/^uint32_t hv_begin/uint16_t hv_begin/' 's/uint64_t end,/uint32_t end,/' 's/uint64_t end,/uint64_t end, uint32_t more,/' 's/    uint32_t cycle;/    uint64_t cycle;/' \
     's/uint64_t where\[HV_LENT(2)\]/uint64_t *HV_RESTRICT place/' 's/^void hv_intake_begin/uint32_t hv_intake_begin/' 's/^uint32_t hv_intake_take/void hv_intake_take/' \
     's/    uint64_t open, count;/    uint32_t open, count;/' 's/    uint64_t open, count;/    uint64_t open, count, more;/' 's/(struct hv_intake \*HV_RESTRICT k/(struct hv_intake k/' \
-    's/uint8_t \*HV_RESTRICT buffer, uint64_t room, const/uint8_t *HV_RESTRICT buffer, const/' \
+    's/uint8_t \*HV_RESTRICT buffer, uint64_t room, const/uint8_t *HV_RESTRICT buffer, const/' 's/int64_t \*HV_RESTRICT figures/u&/' \
+    's/ \(int64_t \*HV_RESTRICT figures\)/ const \1/' 's/int64_t \*HV_RESTRICT figures, uint64_t room/int64_t *HV_RESTRICT figures/' \
     's/const uint8_t \*HV_RESTRICT image, uint64_t len, uint64_t end/uint64_t len, const uint8_t *HV_RESTRICT image, uint64_t end/'; do
     slip "$header" "$edit"
 done
 for edit in 's/^    n: u32,/    n: usize,/' 's/^    end: u64,/    end: u16,/' 's/^    n: u32,/    n: Refusal,/' 's/^    end: u64,//' \
     's/location: &mut \[u64; 2\]) -> u32/location: \&mut [u64; 2]) -> bool/' 's/location: &mut \[u64; 2\]/location: \&mut [u32; 2]/' \
-    's/k: &mut \[u64; 2\]/k: \&mut [u32; 2]/' 's/hv_intake_begin(k: &mut \[u64; 2\])/& -> u32/' 's/buffer: &mut \[u8\]/buffer: \&[u8]/'; do
+    's/k: &mut \[u64; 2\]/k: \&mut [u32; 2]/' 's/hv_intake_begin(k: &mut \[u64; 2\])/& -> u32/' 's/buffer: &mut \[u8\]/buffer: \&[u8]/' \
+    's/numbers: &mut \[i64\]/numbers: \&mut [u64]/' 's/numbers: &mut \[i64\]/numbers: \&[i64]/'; do
     slip "$crate" "$edit"
 done
-echo "the manual's program, the archive's symbols and what crosses its border are as the manual says"
+echo "the manual's programs, the archive's symbols and what crosses its border are as the manual says"

@@ -1,7 +1,7 @@
 #!/bin/sh
 # Runs the archive against the stored cases whose stage has landed, beside the implementation written for
 # speed, from C, against two plain ways to judge a set, and against the independent implementation over
-# fixed cases, random cases and every image of some small sets. The last line says whether the cases of
+# fixed cases, random cases, lines of images and every image of some small sets. The last line says whether the cases of
 # 4 GiB were run. HV_ARCHIVE names another archive than the repository's own.
 set -eu
 
@@ -15,7 +15,7 @@ build() {
 
 build_second "$tests"
 build_stored
-run "$built/stored" "$tests"/cases/*.txt >"$built/cases"
+run "$built/stored" "$tests"/cases/*.txt "$tests"/report/*-*.txt >"$built/cases"
 
 # Refused: a file that says no stage, one that says a landing which the order does not have, and a stored
 # answer that is wrong at its own stage.

@@ -1,4 +1,4 @@
-//! The sample images, built from the numbers of document 01 and of document 000: `samples FOLDER` compares the files in the folder
+//! The sample images, built from the numbers of documents 01, 000 and 001: `samples FOLDER` compares the files in the folder
 //! with them, `samples --write FOLDER` writes those that are not there as they should be.
 
 #[allow(dead_code)]
@@ -38,6 +38,9 @@ const FIGURE_1_STARTS: [(usize, u64); 12] = [
     (1, 48),
     (0, 54),
 ];
+
+/// The tasks of document 001's figure 2, part A, each with one job (samples/README.md has them by their names there).
+const FIGURE_2: &Tasks = &[[0, 1, 16, 5], [0, 3, 16, 7], [7, 2, 16, 4], [13, 1, 16, 3]];
 
 /// 200, 100, 50, 25, 16, 8 and 1 jobs in a cycle of 2,000 ticks.
 const DRIVE: &Tasks = &[
@@ -83,7 +86,8 @@ fn compare(folder: &Path) -> usize {
     for file in fs::read_dir(folder).expect("the folder can be read") {
         let name = file.expect("the folder can be read").file_name();
         let name = name.to_string_lossy();
-        if name.ends_with(".image") && !samples.iter().any(|(known, _)| *known == name) {
+        let image = name.ends_with(".image") || name.ends_with(".images");
+        if image && !samples.iter().any(|(known, _)| *known == name) {
             println!("{name} is no sample");
             differ += 1;
         }
@@ -108,15 +112,16 @@ fn samples() -> Vec<(&'static str, Vec<u8>)> {
         [0, 1, 65_520, 65_520],
         [0, 1, 65_520, 65_520],
     ];
+    let p2 = tables(BY_HAND, &[(10, 2)], &[(1, 0, 7), (2, 0, 1)]);
+    let figure_1 = tables(FIGURE_1, &[(9, 1)], &[(1, 2, 6)]);
+    let figure_2 = tables(FIGURE_2, &[], &[]);
+    let line = [&p2[..], &figure_2, &figure_1].concat();
     let drive = drive_timetable();
     vec![
         ("p1.timetable.image", timetable(BY_HAND, &P1)),
         ("p1.tables.image", tables(BY_HAND, &[], &[])),
         ("p2.timetable.image", timetable(BY_HAND, &P2)),
-        (
-            "p2.image",
-            tables(BY_HAND, &[(10, 2)], &[(1, 0, 7), (2, 0, 1)]),
-        ),
+        ("p2.image", p2),
         (
             "p3.timetable.image",
             timetable(BY_HAND, &p2_with_job_1_at(10)),
@@ -153,12 +158,11 @@ fn samples() -> Vec<(&'static str, Vec<u8>)> {
             "figure1.timetable.image",
             timetable(FIGURE_1, &FIGURE_1_STARTS),
         ),
-        (
-            "figure1.tables.image",
-            tables(FIGURE_1, &[(9, 1)], &[(1, 2, 6)]),
-        ),
+        ("figure1.tables.image", figure_1),
+        ("figure2.tables.image", figure_2),
         ("drive.timetable.image", timetable(DRIVE, &drive)),
         ("drive.tables.image", drive_tables(&drive)),
+        ("line.images", line),
     ]
 }
 

@@ -30,6 +30,7 @@ awk '
         limit["hv_intake_take"] = 64
         limit["hv_intake_close"] = 3072
         limit["hv_intake_rebuild"] = 4096
+        limit["hv_figures"] = 32768
         outside["memcmp"]; outside["memcpy"]; outside["memmove"]; outside["memset"]
     }
 

@@ -1,9 +1,10 @@
 #!/bin/sh
 # Runs the archives for other processors under emulators and compares every answer with that of the archive for x86-64: tests/targets.sh for the Cortex-M4 and
 # AArch64, which ./build-for cortex-m4 aarch64-linux makes, over all stored cases and the samples; tests/targets.sh all for every row of targets/table (./build-for
-# with all their names first), over the fixed and 100,000 random cases of the comparison as well; tests/targets.sh slips for slips that are planted in the
-# module's text, each of which the run has to find. The program is tests/targets/cases.c, built without a C library by a second compiler, gcc, so that the
-# calling convention is tested too. On a bare board every access to a number at an address that is not a multiple of its size is a fault.
+# with all their names first), over the fixed and 100,000 random cases of the comparison as well, but for reports, which are rows of calls; tests/targets.sh
+# slips for slips that are planted in the module's text, each of which the run has to find. The program is tests/targets/cases.c, built without a C library by
+# a second compiler, gcc, so that the calling convention is tested too. On a bare board every access to a number at an address that is not a multiple of its
+# size is a fault.
 set -eu
 
 mode=${1:-gate}
@@ -90,15 +91,15 @@ run "$built/stored" "$tests"/cases/*.txt >"$built/asked"
 if test "$mode" != gate; then
     build_comparer
     build_compare
-    run "$built/compare" print 1 "$random" >>"$built/asked"
+    run "$built/compare" print 1 "$random" | grep -v '^report ' >>"$built/asked"
 fi
 answers_right x86-64 "$archive" "$built/asked" || fail "the archive for x86-64 has another answer"
 
 compile_rust --edition 2021 -O -D warnings -C link-arg="$archive" -o "$built/refused" "$tests/refused.rs"
 run "$built/refused" "$root" questions >"$built/questions"
-for file in "$root"/samples/*.image "$root"/samples/refused/*.image; do
+for file in "$root"/samples/*.image* "$root"/samples/refused/*.image*; do
     image=$(od -An -v -tx1 "$file" | tr -d ' \n')
-    for question in check1 check2 'derive 70000' 'rebuild 70000' begin 'run 1000'; do echo "$question ${image:--}"; done
+    for question in check1 check2 'derive 70000' 'rebuild 70000' begin 'run 1000' 'figures 9000'; do echo "$question ${image:--}"; done
 done >>"$built/questions"
 ln -f "$built/questions" "$built/x86-64/cases"
 run_program x86-64 "$built/x86-64" || fail "the archive for x86-64 does not answer the samples"
@@ -110,7 +111,7 @@ awk '
     { split($0, part, " => "); came[$1, part[2] ~ /refused/ ? "refused" : "taken"] }
     match($0, /refused [0-9]+/) { came[substr($0, RSTART + 8, RLENGTH - 8)] }
     END {
-        count = split("set check1 check2 derive rebuild begin go run intake", operation, " ")
+        count = split("set check1 check2 derive rebuild begin go run intake figures", operation, " ")
         for (i = 1; i <= count; i++) {
             if (!((operation[i], "taken") in came)) { print "no case of " operation[i] " that is taken"; missing = 1 }
             if (!((operation[i], "refused") in came)) { print "no case of " operation[i] " that is refused"; missing = 1 }

@@ -1,14 +1,32 @@
 //! Cases in their written form, `OP ARGUMENTS [=> ANSWER]`, and what the archive answers to them.
 
-use crate::archive::{
-    begin, check_tables, check_timetable, derive, go_on, intake_begin, intake_close, intake_take,
-    judge_set, rebuild, Closed, Intake, Refusal, Start, State, Step, SLOTS, TASKS, TASK_NUMBERS,
-};
+#[path = "hex.rs"]
+mod hex;
 
-/// The operations that the archive has.
-pub const OPERATIONS: [&str; 9] = [
-    "set", "check1", "check2", "derive", "rebuild", "begin", "go", "run", "intake",
+use crate::archive::{
+    begin, check_tables, check_timetable, derive, figures, go_on, intake_begin, intake_close,
+    intake_take, judge_set, rebuild, Closed, Figures, Intake, Refusal, Start, State, Step, SLOTS,
+    TASKS, TASK_NUMBERS,
+};
+pub use hex::{bytes_from, text_of};
+
+/// The operations that the archive has; a run is a row of its calls, and so is a report.
+pub const OPERATIONS: [&str; 11] = [
+    "set", "check1", "check2", "derive", "rebuild", "begin", "go", "run", "intake", "figures",
+    "report",
 ];
+
+/// The most figures that an image has: three, those of 16 tasks and of 4,096 jobs with stretches before,
+/// between and behind their intervals.
+const MOST_FIGURES: usize = 3 + SLOTS + 4_096 + 4_097;
+
+/// The most bytes of an image that a report frames, and the most images of its line.
+const LONGEST_REPORTED: usize = 65_536;
+const MOST_IMAGES: usize = 10_000;
+
+/// So many bytes are held at first to report an image, and so many of its figures.
+const FEW_BYTES: usize = 128;
+const FEW_FIGURES: usize = 32;
 
 /// What the buffer of an intake holds at first.
 const DIRT: u8 = 0xA5;
@@ -19,10 +37,12 @@ pub fn operation(case: &str) -> &str {
 }
 
 /// The calls of a case, by name, each with what it told: one, but for an intake every fragment and every
-/// close.
+/// close; a report told at last whether it was refused.
 pub fn calls<'a>(case: &'a str, answer: &'a str) -> Vec<(&'a str, &'a str)> {
-    if operation(case) != "intake" {
-        return vec![(operation(case), answer)];
+    match operation(case) {
+        "intake" => {}
+        "report" => return vec![("report", answer.rsplit('|').next().unwrap_or(answer))],
+        operation => return vec![(operation, answer)],
     }
     let name = |token: &str| match token.as_bytes().first() {
         Some(b'f') => Some("intake-f"),
@@ -62,6 +82,10 @@ pub fn archive_answer(case: &str) -> Result<String, String> {
         ["intake", length, room, ref tokens @ ..] => {
             intake_answer(&Guarded { case }, length, room, tokens)
         }
+        ["figures", room, images] => {
+            figures_answer(room, images, |room, images| figures(&case, room, images))
+        }
+        ["report", images] => report_answer(images, |room, images| figures(&case, room, images)),
         _ if OPERATIONS.contains(&operation(case)) => None,
         _ => {
             return Err(format!(
@@ -143,6 +167,73 @@ pub fn run_answer(
         told.push(answer_text(&step.1));
     }
     Some(told.join("|"))
+}
+
+/// The answer of a function that gives the figures of the image at the front.
+pub fn figures_answer(
+    room: &str,
+    images: &str,
+    figures: impl FnOnce(usize, &[u8]) -> Result<Figures, Refusal>,
+) -> Option<String> {
+    Some(match figures(room.parse().ok()?, &bytes_from(images)?) {
+        Ok((figures, used)) => {
+            let told: Vec<String> = figures.iter().map(i64::to_string).collect();
+            format!("ok {} {used} {}", figures.len(), told.join(" "))
+        }
+        Err(refusal) => refusal_text(refusal),
+    })
+}
+
+/// The report that such a function gives over a line of images, called image by image under the report's
+/// limits; the first refusal ends it.
+pub fn report_answer(
+    images: &str,
+    figures: impl Fn(usize, &[u8]) -> Result<Figures, Refusal>,
+) -> Option<String> {
+    let images = bytes_from(images)?;
+    let mut rest = &images[..];
+    let mut told: Vec<String> = Vec::new();
+    for reported in 0.. {
+        let answer = match reported {
+            MOST_IMAGES => Err(Refusal::of_no_record(20)),
+            _ => next_figures(rest, &figures),
+        };
+        match answer {
+            Ok((figures, used)) => {
+                told.extend(figures.iter().map(i64::to_string));
+                rest = &rest[used..];
+            }
+            Err(refusal) => {
+                told.push(refusal_text(refusal));
+                break;
+            }
+        }
+        if rest.is_empty() {
+            break;
+        }
+    }
+    Some(told.join("|"))
+}
+
+/// The figures of the next image, asked for as by one who reads a stream: with more and more of its bytes
+/// as long as they end inside it, and with room for all figures where there are not few.
+fn next_figures(
+    rest: &[u8],
+    figures: &impl Fn(usize, &[u8]) -> Result<Figures, Refusal>,
+) -> Result<Figures, Refusal> {
+    let most = rest.len().min(LONGEST_REPORTED);
+    let mut held = most.min(FEW_BYTES);
+    let mut room = FEW_FIGURES;
+    loop {
+        match figures(room, &rest[..held]) {
+            Err(Refusal { number: 1, .. }) if held < most => held = most.min(8 * held),
+            Err(Refusal { number: 1, .. }) if held < rest.len() => {
+                return Err(Refusal::of_no_record(20))
+            }
+            Err(Refusal { number: 20, .. }) if room < MOST_FIGURES => room = MOST_FIGURES,
+            answer => return answer,
+        }
+    }
 }
 
 /// The calls of an intake.
@@ -273,26 +364,4 @@ fn task_from(text: &str) -> Option<[u32; 4]> {
 /// Numbers separated by commas.
 fn numbers_from(text: &str) -> Option<Vec<u32>> {
     text.split(',').map(|number| number.parse().ok()).collect()
-}
-
-/// Bytes in hex, `-` for none.
-fn text_of(bytes: &[u8]) -> String {
-    if bytes.is_empty() {
-        return "-".to_string();
-    }
-    bytes.iter().map(|byte| format!("{byte:02x}")).collect()
-}
-
-pub fn bytes_from(text: &str) -> Option<Vec<u8>> {
-    if text == "-" {
-        return Some(Vec::new());
-    }
-    let pairs = text.as_bytes().chunks(2);
-    pairs
-        .map(|pair| Some(digit(*pair.first()?)? * 16 + digit(*pair.get(1)?)?))
-        .collect()
-}
-
-fn digit(letter: u8) -> Option<u8> {
-    char::from(letter).to_digit(16).map(|value| value as u8)
 }

@@ -1,11 +1,11 @@
-/* The examples P1 to P12 of document 01, asked of the archive from C through its header alone: numbers, places, byte offsets and bytes, and that every call
- * leaves the rest of what it was lent, and the guards around it, as they were. */
+/* The examples P1 to P12 of document 01, asked of the archive from C through its header alone: numbers, places, byte offsets, bytes and figures, and that every
+ * call leaves the rest of what it was lent, and the guards around it, as they were. */
 #include "hervantyu.h"
 
 #include <stdio.h>
 #include <string.h>
 
-enum { GUARD = 16, MOST = 256, SET_NUMBERS = 64 };
+enum { GUARD = 16, MOST = 256, SET_NUMBERS = 64, MOST_FIGURES = 16 };
 
 static unsigned checks, failed;
 static unsigned char filling;
@@ -142,6 +142,35 @@ static void expect_turn(const char *example, const struct kind *kind, const stru
         check(memcmp(out.now + GUARD, result->bytes, written) == 0, example, "turning writes other bytes");
 }
 
+struct figures {
+    uint64_t count;
+    int64_t numbers[MOST_FIGURES];
+};
+
+/* The figures of the image at the front of so many bytes; where a refusal is expected, none are. */
+static void expect_figures(const char *example, const struct image *images, uint64_t room, struct refusal refusal, const struct figures *figures,
+                           uint64_t length)
+{
+    struct {
+        int64_t front[GUARD], now[MOST_FIGURES], behind[GUARD];
+    } lent, expected;
+    struct bytes bytes;
+    struct location where = lend_location();
+    struct wide count = lend_wide(), used = lend_wide();
+    lend(&bytes, images->bytes, images->length);
+    memset(&lent, filling, sizeof lent);
+    memset(&expected, filling, sizeof expected);
+    if (figures)
+        memcpy(expected.now, figures->numbers, figures->count * sizeof *figures->numbers);
+    check(hv_figures(bytes.now + GUARD, images->length, lent.now, room, where.now, &count.now, &used.now) == refusal.number, example,
+          "figures give another number");
+    check(location_is(&where, refusal), example, "figures store another place or offset");
+    check(wide_is(&count, figures ? figures->count : wide_filling()), example, "figures are others in number");
+    check(wide_is(&used, figures ? length : wide_filling()), example, "figures store another length of the image");
+    check(kept_behind(&bytes, 0), example, "figures change the image");
+    check(memcmp(&lent, &expected, sizeof lent) == 0, example, "figures are others, or written where nothing is to be");
+}
+
 /* Where a refusal is expected, hyperperiod and jobs are 0. */
 static void expect_judge(const char *example, uint32_t n, const uint32_t (*tasks)[4], uint32_t number, uint32_t hyperperiod, uint32_t jobs)
 {
@@ -161,12 +190,16 @@ static void expect_judge(const char *example, uint32_t n, const uint32_t (*tasks
     check(memcmp(&before, &lent, sizeof lent) == 0, example, "judging changes the tasks");
 }
 
-/* An image that is refused is refused so whatever the room. */
+/* An image that is refused is refused so whatever the room; tables have no figures then. */
 static void expect_refused(const char *example, const struct kind *kind, const struct image *image, struct refusal refusal)
 {
     expect_check(example, kind, image, refusal);
     expect_turn(example, kind, image, 0, refusal, NULL);
     expect_turn(example, kind, image, MOST, refusal, NULL);
+    if (kind == &table_kind) {
+        expect_figures(example, image, 0, refusal, NULL, 0);
+        expect_figures(example, image, MOST_FIGURES, refusal, NULL, 0);
+    }
 }
 
 /* A good image is turned in an output of just the result's length or more, and refused with 20 in a shorter one. */
@@ -359,6 +392,33 @@ static void table_images(void)
     expect_refused("P2 without EN", &table_kind, &image, (struct refusal){1, 7, 85});
 }
 
+/* The figures of good tables: in a room of just their number or more, and 20 in a smaller one; whatever stands behind the image. */
+static void expect_measured(const char *example, const struct image *tables, const struct figures *figures)
+{
+    struct image line = *tables;
+    for (line.length = tables->length; line.length <= tables->length + 7; line.length++) {
+        expect_figures(example, &line, figures->count, none, figures, tables->length);
+        expect_figures(example, &line, MOST_FIGURES, none, figures, tables->length);
+        expect_figures(example, &line, figures->count - 1, no_room, NULL, 0);
+        expect_figures(example, &line, 0, no_room, NULL, 0);
+        line.bytes[line.length] = "TS\1\2\0EN"[line.length - tables->length];
+    }
+}
+
+/* P2's capacities are document 02's, and P1's as well, which has the same tasks. P1 never idles while a job waits; task 0's second job ends at 10, when it is
+ * due, task 1's jobs 7 ticks before they are due, at 3 and 13, task 2's at 9. P9 is busy in its one tick. */
+static void all_figures(void)
+{
+    static const struct figures p1 = {10, {14, 0, 6, 0, -7, -11, 4, 2, 0, -4}}, p2 = {10, {14, 2, 4, 0, -1, -13, 4, 2, 0, -4}}, p9 = {5, {1, 0, 0, 0, 0}};
+    struct image image = p2_tables;
+    expect_measured("P1", &p1_tables, &p1);
+    expect_measured("P2", &p2_tables, &p2);
+    expect_measured("P9", &p9_tables, &p9);
+    image.bytes[90] = 8;
+    image.length = 91 + 16;
+    expect_figures("P2 with another number in EN, and bytes behind it", &image, MOST_FIGURES, (struct refusal){10, 7, 85}, NULL, 0);
+}
+
 int main(void)
 {
     static const unsigned char fillings[2] = {0x5A, 0xA5};
@@ -367,6 +427,7 @@ int main(void)
         sets();
         timetables();
         table_images();
+        all_figures();
     }
     printf("%u checks, %u failed\n", checks, failed);
     return failed > 0 || checks == 0;

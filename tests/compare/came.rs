@@ -5,7 +5,7 @@ use std::collections::{BTreeMap, BTreeSet};
 
 /// For each operation the numbers that it can give, 0 where nothing is refused; an intake's fragments
 /// and its two closes count by themselves.
-const NUMBERS: [(&str, &[u32]); 11] = [
+const NUMBERS: [(&str, &[u32]); 13] = [
     ("set", &[0, 5, 6, 7, 8, 9]),
     ("check1", &TIMETABLE),
     ("derive", &DERIVE),
@@ -17,6 +17,8 @@ const NUMBERS: [(&str, &[u32]); 11] = [
     ("intake-f", &[0, 20]),
     ("intake-c", &REBUILD),
     ("intake-r", &REBUILD),
+    ("figures", &REBUILD),
+    ("report", &REBUILD),
 ];
 
 const TIMETABLE: [u32; 17] = [0, 1, 2, 3, 4, 5, 6, 7, 8, 9, 10, 11, 12, 13, 14, 15, 16];

@@ -1,13 +1,13 @@
 //! Compares the archive with a second opinion: over fixed cases at the edges of the rules, over
-//! random cases and journeys of an intake, and over every timetable and every table image of some
-//! small sets; the table images of all these are also fed to the archive in fragments.
+//! random cases, journeys of an intake and lines of images, and over every timetable and every table
+//! image of some small sets; the table images of all these are also fed to the archive in fragments.
 //! `compare SEED CASES [MOST]` asks so many random cases and ends early after so many differences,
 //! 100 where nothing is said. A difference is a line `CASE => ANSWER` with the second opinion; the
 //! archive's own answer is told on standard error, as is the progress. Then comes how often each
 //! number was given and at how many places; it fails too where one never came, or a part of the
 //! cases was not asked. The last line is the count, with that of the cases of 4 GiB.
 //! `compare print SEED CASES` asks the archive nothing: it prints the fixed cases, so many random
-//! ones and the intake's journeys, each with the second opinion.
+//! ones, the intake's journeys and the lines, each with the second opinion.
 
 #[path = "../archive.rs"]
 mod archive;
@@ -22,6 +22,7 @@ mod images;
 mod intakes;
 mod large;
 mod limits;
+mod lines;
 mod orders;
 mod shapes;
 mod states;
@@ -56,6 +57,9 @@ mod landed;
 mod rides;
 #[path = "../independent/sets.rs"]
 mod sets;
+#[allow(dead_code)]
+#[path = "../independent/spare.rs"]
+mod spare;
 
 use asking::Asking;
 use std::io::{stdout, BufWriter, Write};
@@ -88,8 +92,8 @@ pub fn compare(arguments: &[String], second: Opinion) -> ExitCode {
 
 /// Asks all parts, so many random cases among them.
 fn compare_all(seed: u64, count: u64, most: u64, second: Opinion) -> ExitCode {
-    let journeys = count / intakes::ONE_IN;
-    let wanted = edges::ABOUT + count + journeys + every::ABOUT;
+    let (journeys, lines) = (count / intakes::ONE_IN, count / lines::ONE_IN);
+    let wanted = edges::ABOUT + count + journeys + lines + every::ABOUT;
     let mut asking = Asking::new(second, most, wanted);
     let random = stream::Stream::new(seed).take(count as usize);
     let intakes = intakes::journeys(seed, count);
@@ -102,6 +106,9 @@ fn compare_all(seed: u64, count: u64, most: u64, second: Opinion) -> ExitCode {
     let went = part(&mut asking, "journeys of an intake", |all| {
         all.ask_each(intakes)
     });
+    let in_line = part(&mut asking, "lines of images", |all| {
+        all.ask_each(lines::random(seed, count))
+    });
     let small = part(&mut asking, "cases of small sets", every::compare_all);
     let far = part(&mut asking, "cases of 4 GiB", far::compare_all);
     let (cut, in_two) = (asking.bus.cut, asking.bus.in_two);
@@ -112,6 +119,7 @@ fn compare_all(seed: u64, count: u64, most: u64, second: Opinion) -> ExitCode {
         ("fixed cases", fixed, edges::ABOUT / 2),
         ("random cases", drawn, count),
         ("journeys of an intake", went, journeys),
+        ("lines of images", in_line, lines),
         ("cases of small sets", small, every::ABOUT / 2),
         ("images cut at random", cut, wanted / 4),
         ("images cut in two", in_two, cuts::ABOUT_IN_TWO / 2),
@@ -121,7 +129,8 @@ fn compare_all(seed: u64, count: u64, most: u64, second: Opinion) -> ExitCode {
     verdict(&asking, few.collect(), far)
 }
 
-/// Prints the fixed cases, so many random ones and the intake's journeys, each with the second opinion.
+/// Prints the fixed cases, so many random ones, the intake's journeys and the lines, each with the second
+/// opinion.
 fn print_cases(seed: Option<u64>, count: Option<usize>, second: Opinion) -> ExitCode {
     let (Some(seed), Some(count)) = (seed, count) else {
         eprintln!("usage: compare print SEED CASES");
@@ -130,7 +139,8 @@ fn print_cases(seed: Option<u64>, count: Option<usize>, second: Opinion) -> Exit
     let mut out = BufWriter::new(stdout().lock());
     let random = stream::Stream::new(seed).take(count);
     let cases = edges::cases().chain(random);
-    for case in cases.chain(intakes::journeys(seed, count as u64)) {
+    let cases = cases.chain(intakes::journeys(seed, count as u64));
+    for case in cases.chain(lines::random(seed, count as u64)) {
         let answer = second(&case).expect("the case can be read");
         writeln!(out, "{case} => {answer}").expect("standard output can be written");
     }

@@ -8,15 +8,15 @@ use crate::form::image_text;
 use crate::images::{records_of, right_room};
 use crate::independent::{encode, Entry, Set, Task, TABLES, TIMETABLE, TODAY};
 use crate::sweeps::{go, running_start};
-use crate::{intakes, large, limits, orders};
+use crate::{intakes, large, limits, lines, orders};
 
 pub const MOST: u64 = u32::MAX as u64;
 
 /// About so many cases are asked.
-pub const ABOUT: u64 = 17_000;
+pub const ABOUT: u64 = 20_000;
 
 /// The groups of fixed cases.
-const GROUPS: [fn() -> Vec<String>; 11] = [
+const GROUPS: [fn() -> Vec<String>; 12] = [
     limits::cases,
     orders::heads,
     orders::pairs_of_faults,
@@ -28,6 +28,7 @@ const GROUPS: [fn() -> Vec<String>; 11] = [
     large::most_records,
     missing_by_hand,
     intakes::cases,
+    lines::cases,
 ];
 
 /// All fixed cases; a group is made when it is its turn.

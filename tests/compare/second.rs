@@ -15,6 +15,8 @@ mod independent;
 mod intake;
 #[path = "../independent/landed.rs"]
 pub mod landed;
+#[path = "../independent/spare.rs"]
+mod spare;
 
 use dispatcher::{Start, SLOTS};
 use form::{image_from, image_text, task_from};
@@ -58,6 +60,10 @@ pub fn answer(landed: Landed, case: &str) -> Option<String> {
         ["intake", length, room, ref tokens @ ..] if landed.has(1) => {
             intake_answer(rules, length.parse().ok()?, room.parse().ok()?, tokens)
         }
+        ["figures", room, images] if landed.has(4) => {
+            figures_answer(rules, room.parse().ok()?, &image_from(images)?)
+        }
+        ["report", images] if landed.has(4) => Some(rules.report(&image_from(images)?).join("|")),
         _ => None,
     }
 }
@@ -99,6 +105,17 @@ fn turn_answer(rules: Rules, image: &[u8], answer: Result<Vec<u8>, Refusal>) -> 
     Some(match answer {
         Ok(result) => format!("ok {} {}", result.len(), image_text(&result)),
         Err(refusal) => rules.refusal_text(refusal, image),
+    })
+}
+
+/// The figures of the image at the front, behind how many they are and how many bytes it has.
+fn figures_answer(rules: Rules, room: u64, images: &[u8]) -> Option<String> {
+    Some(match rules.figures(images, room) {
+        Ok((figures, used)) => {
+            let told: Vec<String> = figures.iter().map(i64::to_string).collect();
+            format!("ok {} {used} {}", figures.len(), told.join(" "))
+        }
+        Err(refusal) => rules.refusal_text(refusal, images),
     })
 }
 

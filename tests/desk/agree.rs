@@ -14,6 +14,9 @@ mod about_tables;
 mod about_timetables;
 #[path = "../../desk/archive.rs"]
 mod archive;
+#[allow(dead_code)]
+#[path = "../../desk/axes.rs"]
+mod axes;
 #[path = "../../desk/draw.rs"]
 mod draw;
 #[path = "../../desk/explain.rs"]
@@ -62,11 +65,13 @@ mod rides;
 mod sets;
 
 mod differences;
+mod intervals;
 mod mend;
 mod pictures;
 mod words;
 
 use archive::{check, rebuild, Kind, Refusal};
+use axes::Axis;
 use chance::Chance;
 use form::image_from;
 use independent::TODAY;
@@ -200,8 +205,8 @@ fn hold(kind: Kind, image: &[u8], count: &mut Count) {
     }
 }
 
-/// The replay for display of accepted tables is the archive's timetable, no record is without effect, and
-/// the listing is the independent one.
+/// The replay for display of accepted tables is the archive's timetable, no record is without effect, the
+/// listing is the independent one, and the intervals are those of the archive's capacities.
 fn hold_accepted(kind: Kind, image: &[u8]) {
     let tables = match kind {
         Kind::Timetable => archive::derive(image),
@@ -222,9 +227,10 @@ fn hold_accepted(kind: Kind, image: &[u8]) {
         .iter()
         .map(|line| format!("{line}\n"))
         .collect();
-    let long = tables.len() > explain::LONGEST_LISTED;
+    let long = tables.len() > explain::LONGEST_PRINTED;
     let listed = long || list::lines(&timetable) == lines;
     demand(listed, image, "the listing is another one");
+    intervals::hold(image, &set, &Axis::of_accepted(&tables));
 }
 
 fn demand(held: bool, image: &[u8], fault: &str) {

@@ -1,7 +1,8 @@
 //! Pictures: every job, release, deadline, forced idle and inversion of an accepted image is in its picture,
-//! and no two texts lie over each other.
+//! every interval where these are wanted, and no two texts lie over each other.
 
 use crate::archive::{derive, rebuild, Kind};
+use crate::axes::Axis;
 use crate::demand;
 use crate::draw::picture;
 use crate::independent::{Entry, TODAY};
@@ -21,24 +22,40 @@ pub fn hold(kind: Kind, image: &[u8], pictures: &mut u64) {
         Kind::Timetable => (image, &turned[..]),
         Kind::Tables => (&turned[..], image),
     };
-    let svg = picture("a & b", "<", &decode(timetable), &decode(tables));
-    demand(
-        svg.contains("a &amp; b") && svg.contains(">&lt;<"),
-        image,
-        "names are not escaped",
-    );
-    demand(
-        titles(&svg) == expected_titles(tables),
-        image,
-        "the picture has other jobs or idles",
-    );
-    demand(
-        marks(&svg) == expected_marks(tables),
-        image,
-        "the picture has other releases",
-    );
-    hold_texts_apart(image, &svg);
+    let axis = Axis::of_accepted(tables);
+    for axis in [None, Some(&axis)] {
+        let svg = picture("a & b", "<", &decode(timetable), &decode(tables), axis);
+        demand(
+            svg.contains("a &amp; b") && svg.contains(">&lt;<"),
+            image,
+            "names are not escaped",
+        );
+        let mut expected = expected_titles(tables);
+        expected.extend(axis.map(interval_titles).into_iter().flatten());
+        demand(
+            titles(&svg) == expected,
+            image,
+            "the picture has other jobs, idles or intervals",
+        );
+        demand(
+            marks(&svg) == expected_marks(tables),
+            image,
+            "the picture has other releases",
+        );
+        hold_texts_apart(image, &svg);
+    }
     *pictures += 1;
+}
+
+fn interval_titles(axis: &Axis) -> Vec<String> {
+    let title =
+        |((from, to), capacity)| format!("interval from {from} to {to}: capacity {capacity}");
+    let bounds = axis
+        .intervals
+        .iter()
+        .map(|interval| (interval.from, interval.to));
+    let capacities = &axis.figures[3 + axis.lateness.len()..];
+    bounds.zip(capacities).map(title).collect()
 }
 
 /// The titles of boxes; a box that goes over the end of a band is there twice.

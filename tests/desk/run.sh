@@ -1,7 +1,7 @@
 #!/bin/sh
 # Tests of the desk program: the samples against their numbers, what it decodes against the archive's answers, its texts and exit statuses against cases.txt,
-# its listing against the listing program's cases, the refused samples' answers and the samples' README against what it prints. HV_ARCHIVE names another archive
-# than the repository's own.
+# its listing and its report against the cases of the programs, the refused samples' answers and the samples' README against what it prints. HV_ARCHIVE names
+# another archive than the repository's own.
 set -eu
 
 folder=$(cd "$(dirname "$0")" && pwd)
@@ -29,17 +29,20 @@ run "$built/samples" samples
 build agree tests/desk/agree.rs
 run "$built/agree" samples 1 6000
 
-# A command hv for the cases, and a program that lists standard input for the listing's.
+# A command hv for the cases, and two that stand in for the programs: these end with 0 where an image is refused, too.
 build program desk/main.rs
 mkdir "$built/bin" "$built/T"
 printf '#!/bin/sh\n. "%s/tests/host.sh"\nrun "%s/program" "$@"\n' "$PWD" "$built" >"$built/bin/hv"
-printf '#!/bin/sh\nexec "%s/bin/hv" list --plain --kind 2 -\n' "$built" >"$built/bin/list"
-chmod +x "$built/bin/hv" "$built/bin/list"
+for program in listing report; do
+    case $program in listing) words="list --kind 2" ;; *) words=report ;; esac
+    printf '#!/bin/sh\n"%s/bin/hv" %s --plain - || test $? = 1\n' "$built" "$words" >"$built/bin/$program"
+done
+chmod +x "$built"/bin/*
 PATH=$built/bin:$PATH
 T=$built/T
 export PATH T
 
-tests/listing/run.sh "$built/bin/list"
+for program in listing report; do "tests/$program/run.sh" "$built/bin/$program"; done
 
 # Each case is a command behind '$ ', the lines that it prints, and its exit status behind '= '. The folder $T is printed as T.
 count=0
@@ -99,17 +102,20 @@ done <samples/refused/answers.txt
 test "$refused" -gt 0 || { echo "samples/refused/answers.txt has no line"; exit 1; }
 count=$((count + refused))
 
-# Each sample has its line in the samples' README, with its length and its answer, and no other has one.
+# Each sample has its line in the samples' README, with its length and its answer, a line of images with the number of its axes, and no other has one.
 images=0
-for image in samples/*.image; do
+for image in samples/*.image samples/*.images; do
     test -f "$image" || { echo "there are no samples"; exit 1; }
     images=$((images + 1))
-    answer=$(hv check --plain "$image") || true
+    case $image in
+    *.images) answer="$(hv report --csv "$image" | sed 1d | wc -l) axes" ;;
+    *) answer=$(hv check --plain "$image") || true ;;
+    esac
     line="| \`${image#samples/}\` | $(($(wc -c <"$image"))) | $answer | "
     grep -qF "$line" samples/README.md || { differ=$((differ + 1)); echo "samples/README.md has no line $line"; }
 done
 count=$((count + images))
-rows=$(grep -c '^| `.*\.image` |' samples/README.md)
+rows=$(grep -c '^| `.*\.images*` |' samples/README.md)
 test "$rows" = "$images" || { differ=$((differ + 1)); echo "samples/README.md has $rows lines for $images images"; }
 
 # The script at the top builds and runs the program by itself.

@@ -21,7 +21,7 @@ const NEVER: u32 = u32::MAX;
 pub fn begin(state: &mut State, image: &[u8]) -> Result<Start, Refusal> {
     state.fill(0);
     let tables = tables_of(image)?;
-    replay(&tables, |_, _| {})?;
+    replay(&tables, |_, _, _| {})?;
     let n = tables.jobs.n;
     state[0] = n as u32;
     for (i, number) in state[TASKS..][..4 * n].iter_mut().enumerate() {

@@ -8,7 +8,9 @@ pub fn image_text(image: &[u8]) -> String {
     if image.is_empty() {
         return "-".to_string();
     }
-    image.iter().map(|byte| format!("{byte:02x}")).collect()
+    let digit = |value: u8| char::from(b"0123456789abcdef"[usize::from(value)]);
+    let digits = image.iter().flat_map(|byte| [byte >> 4, byte & 15]);
+    digits.map(digit).collect()
 }
 
 pub fn image_from(text: &str) -> Option<Vec<u8>> {

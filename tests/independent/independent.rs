@@ -352,32 +352,40 @@ fn allowed_record(bytes: &[u8], marks: &[Mark], index: usize) -> Result<Record, 
 
 impl Rules {
     /// The tests of framing on a whole record: 3, 4 and 5 for TS, 10 for EN.
-    fn judge_frame(
-        &self,
-        record: Record,
-        kind_wanted: u64,
-        index: usize,
-        left: usize,
-    ) -> Result<(), Refusal> {
+    fn judge_frame(&self, record: Record, kind_wanted: u64, index: usize) -> Result<(), Refusal> {
         match record {
             Record::Ts { edition, .. } if edition != 1 => refuse(3, index),
             Record::Ts { kind, .. } if kind != kind_wanted => refuse(4, index),
             Record::Ts { n, .. } if n < 1 || n > MOST_TASKS => refuse(5, index),
-            Record::En(number) if number != index as u64 || left > 0 => refuse(10, index),
+            Record::En(number) if number != index as u64 => refuse(10, index),
             _ => Ok(()),
         }
     }
 
-    /// The records of an image, TS and EN included, if its framing is that of the kind wanted.
-    pub fn frame(&self, image: &[u8], kind: u64) -> Result<Vec<Record>, Refusal> {
+    /// The records up to EN at the front of some bytes, TS and EN included, if their framing is that of
+    /// the kind wanted, and the bytes behind them.
+    pub fn frame_front<'a>(
+        &self,
+        bytes: &'a [u8],
+        kind: u64,
+    ) -> Result<(Vec<Record>, &'a [u8]), Refusal> {
         let mut records = Vec::new();
-        let mut rest = image;
+        let mut rest = bytes;
         while !matches!(records.last(), Some(Record::En(_))) {
             let index = records.len();
             let record = allowed_record(rest, self.allowed(&records, kind), index)?;
             rest = &rest[record_length(record.mark())..];
-            self.judge_frame(record, kind, index, rest.len())?;
+            self.judge_frame(record, kind, index)?;
             records.push(record);
+        }
+        Ok((records, rest))
+    }
+
+    /// The records of an image, behind whose EN nothing follows.
+    pub fn frame(&self, image: &[u8], kind: u64) -> Result<Vec<Record>, Refusal> {
+        let (records, behind) = self.frame_front(image, kind)?;
+        if !behind.is_empty() {
+            return refuse(10, records.len() - 1);
         }
         Ok(records)
     }
@@ -641,10 +649,17 @@ impl Rules {
 
     /// Plain checking of a table image; gives its set, its tables and the replayed timetable.
     pub fn check_tables(&self, image: &[u8]) -> Result<(Set, Tables, Vec<Entry>), Refusal> {
-        let records = self.frame(image, TABLES)?;
-        let set = self.judge_tasks(&records)?;
+        self.check_table_records(&self.frame(image, TABLES)?)
+    }
+
+    /// Plain checking of a table image behind its framing.
+    pub fn check_table_records(
+        &self,
+        records: &[Record],
+    ) -> Result<(Set, Tables, Vec<Entry>), Refusal> {
+        let set = self.judge_tasks(records)?;
         let mut tables = Tables::default();
-        for record in &records {
+        for record in records {
             match record {
                 Record::Id(idle) => tables.idles.push(*idle),
                 Record::Pv(inversion) => tables.inversions.push(*inversion),

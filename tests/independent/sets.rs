@@ -171,7 +171,7 @@ pub fn large_timetable(chance: &mut Chance) -> (Set, Vec<Entry>) {
 
 /// The timetable of 4,096 jobs with that many forced idles and 3,821 inversions, whose table
 /// image has 34,688 bytes and 8 for each idle: 65,536 bytes with 3,856 idles.
-fn longest_tables(idles: u64) -> (Set, Vec<Entry>) {
+pub fn longest_tables(idles: u64) -> (Set, Vec<Entry>) {
     let mut tasks = vec![task(0, 1, 240, 240); 15];
     tasks.push(task(0, 1, 65_520, 65_520));
     let mut order = vec![15];

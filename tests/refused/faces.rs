@@ -1,6 +1,6 @@
 //! The archive and the independent implementation behind one face, with the archive's types.
 
-use crate::archive::{self, Judged, Refusal, State, Step};
+use crate::archive::{self, Figures, Judged, Refusal, State, Step};
 use crate::dispatcher;
 use crate::independent::{self, Task, TODAY};
 
@@ -16,6 +16,7 @@ pub trait Face {
     fn judge_set(&self, n: u32, tasks: &[[u32; 4]]) -> Judged;
     fn check(&self, kind: Kind, image: &[u8]) -> Result<(), Refusal>;
     fn turn(&self, kind: Kind, room: u64, image: &[u8]) -> Result<Vec<u8>, Refusal>;
+    fn figures(&self, room: u64, images: &[u8]) -> Result<Figures, Refusal>;
     fn begin(&self, image: &[u8]) -> Step;
     fn go_on(&self, image: &[u8], state: &State, end: u64) -> Step;
 }
@@ -45,6 +46,10 @@ impl Face for Archive<'_> {
             Kind::Timetable => archive::derive(&self.0, room as usize, image),
             Kind::Tables => archive::rebuild(&self.0, room as usize, image),
         }
+    }
+
+    fn figures(&self, room: u64, images: &[u8]) -> Result<Figures, Refusal> {
+        archive::figures(&self.0, room as usize, images)
     }
 
     fn begin(&self, image: &[u8]) -> Step {
@@ -84,6 +89,11 @@ impl Face for Independent {
             Kind::Tables => TODAY.rebuild(image, room),
         }
         .map_err(|given| refusal(given, image))
+    }
+
+    fn figures(&self, room: u64, images: &[u8]) -> Result<Figures, Refusal> {
+        let given = TODAY.figures(images, room);
+        given.map_err(|given| refusal(given, images))
     }
 
     fn begin(&self, image: &[u8]) -> Step {

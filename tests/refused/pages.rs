@@ -2,12 +2,15 @@
 
 use crate::archive::Refusal;
 use crate::faces::{Archive, Face, Independent, Kind};
-use crate::{place_of, refused, sample, Case};
+use crate::{is_sample, place_of, refused, sample, Case};
 use std::fs;
 use std::path::Path;
 
 const TABLES: &str = "../p2.image";
 const TIMETABLE: &str = "20-no-room-to-derive.image";
+
+/// What the C of docs/INTEGRATION.md is part of.
+const PROGRAMS: [&str; 3] = ["tests/c/manual.c", "tests/c/axes.c", "firmware/main.c"];
 
 /// All that is not so.
 pub fn faults(root: &Path, cases: &[Case]) -> Result<Vec<String>, String> {
@@ -20,7 +23,10 @@ pub fn faults(root: &Path, cases: &[Case]) -> Result<Vec<String>, String> {
     faults.extend(quoted_bytes(root, &page, true)?);
     faults.extend(numbers_of_state(&page));
     let page = text(root, "docs/INTEGRATION.md")?;
-    let programs = text(root, "tests/c/manual.c")? + &text(root, "firmware/main.c")?;
+    let mut programs = String::new();
+    for name in PROGRAMS {
+        programs += &text(root, name)?;
+    }
     faults.extend(quoted_program(&page, &programs));
     faults.extend(theorems(root, &page)?);
     Ok(faults)
@@ -201,7 +207,7 @@ fn quoted_bytes(root: &Path, page: &str, whole: bool) -> Result<Vec<String>, Str
         let mut behind = 0;
         for line in &block {
             let first = line.split(' ').next().unwrap_or("");
-            if first.ends_with(".image") {
+            if is_sample(first) {
                 name = first;
                 image = sample(root, &name.replacen("samples/", "../", 1))?;
             } else if line.starts_with("byte ") {
@@ -273,10 +279,8 @@ fn quoted_program(page: &str, programs: &str) -> Vec<String> {
         .filter(|piece| !programs.contains(&format!("{}\n", piece.join("\n"))));
     absent
         .map(|piece| {
-            format!(
-                "not in tests/c/manual.c or firmware/main.c: {}",
-                piece.join("\n")
-            )
+            let piece = piece.join("\n");
+            format!("not in {}: {piece}", PROGRAMS.join(", "))
         })
         .collect()
 }

@@ -98,6 +98,12 @@ static void put_number(uint64_t number)
     }
 }
 
+static void put_signed(int64_t number)
+{
+    put(number < 0 ? "-" : "");
+    put_number(number < 0 ? 0 - (uint64_t)number : (uint64_t)number);
+}
+
 static void put_byte(uint8_t byte)
 {
     const char text[3] = {"0123456789abcdef"[byte >> 4], "0123456789abcdef"[byte & 15], 0};
@@ -379,6 +385,37 @@ static void turn(uint8_t filling,
     put_made(number, room, &out, &where, &made);
 }
 
+static void figures(uint8_t filling)
+{
+    uint64_t room = number_of(1);
+    size_t length = bytes_of(2);
+    if (room > ARENA / 8)
+        fault("no room for what is lent");
+    struct lent bytes = lend(image, 1, length, filling), stored = lend(NULL, 8, (size_t)room, filling);
+    struct lent where = lend(NULL, 8, 2, filling), count = lend(NULL, 8, 1, filling), used = lend(NULL, 8, 1, filling);
+    uint32_t number = hv_figures(pointer(&bytes), length, pointer(&stored), room, pointer(&where), pointer(&count), pointer(&used));
+    uint64_t written = number ? 0 : wide(&count, 0);
+    demand_kept(&bytes, 0, "the images changed");
+    demand_kept(&count, !number, "the count changed where it is to be kept");
+    demand_kept(&used, !number, "the image's length changed where it is to be kept");
+    if (written > room)
+        fault("the count is above the room");
+    demand_kept(&stored, (size_t)written, "the figures changed where they are to be kept");
+    demand_where(number, &where, 2);
+    if (number) {
+        put_refused(number, pointer(&where), 2);
+        return;
+    }
+    put("ok ");
+    put_number(written);
+    put(" ");
+    put_number(wide(&used, 0));
+    for (size_t i = 0; i < written; i++) {
+        put(" ");
+        put_signed((int64_t)wide(&stored, i));
+    }
+}
+
 static void begin(uint8_t filling)
 {
     size_t length = bytes_of(1);
@@ -568,6 +605,8 @@ static void ask(uint8_t filling)
         turn(filling, hv_derive);
     else if (is("rebuild", 2))
         turn(filling, hv_rebuild);
+    else if (is("figures", 2))
+        figures(filling);
     else if (is("begin", 1))
         begin(filling);
     else if (is("go", 3))

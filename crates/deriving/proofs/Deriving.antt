@@ -22,9 +22,9 @@ use Rattle.sets.specs.Kept.{Rows, hyperperiod-in}
 use Rattle.writing.specs.Writing.{put-at, record-put}
 use Rattle.timetables.specs.declared.Timetable.{Timetable}
 use Rattle.timetables.specs.declared.Counts.{Counts}
-use Rattle.timetables.specs.Judged.{entries-behind, Good, JudgedAs}
+use Rattle.timetables.specs.Judged.{entries-behind, Good, JudgedAs, EntriesValid}
 use Rattle.timetables.specs.Counted.{Counted}
-use Rattle.deriving.specs.Putting.{EntriesValid, tables-put, CanPut}
+use Rattle.deriving.specs.Putting.{tables-put, CanPut}
 use Rattle.deriving.proofs.ImagePut.{table-put}
 use Rattle.deriving.proofs.ValidEntries.{few-idles, few-inversions}
 

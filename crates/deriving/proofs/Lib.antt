@@ -2,7 +2,6 @@ pub mod ByTask
 pub mod Parts
 pub mod TablesPut
 pub mod ImagePut
-pub mod ValidTurns
 pub mod ValidEntries
 pub mod Putting
 pub mod Deriving

@@ -35,8 +35,8 @@ use Rattle.deriving.specs.Putting.{FewCounted, PartsBegin, idle-from, in
 use Rattle.deriving.proofs.ByTask.{inversions-by-task}
 use Rattle.deriving.proofs.TablesPut.{idle-put, inversion-put, same-left, all-put, all-left}
 use Rattle.deriving.proofs.ImagePut.{tables-length}
-use Rattle.deriving.proofs.ValidTurns.{ValidAt, first-left, entry-keeps, entry-task, entry-next}
-use Rattle.deriving.proofs.ValidEntries.{all-valid, valid-first, few-idles, few-own}
+use Rattle.timetables.proofs.ValidTurns.{ValidAt, first-left, entry-keeps, entry-task, entry-next, all-valid, first-valid}
+use Rattle.deriving.proofs.ValidEntries.{few-idles, few-own}
 
 -- where there is no record all stays as it was
 pub none-put : {is : Bool} {m : Mark} {values out : List ℕ} {place : ℕ} → is ≡ false → PutWhere is m values out place out place
@@ -92,7 +92,7 @@ put-first {ts} {bytes} {listed = listed} {at = at} {c = c} {offsets} {out} can b
       started = [];
       numbers = λ i. omega (arith, zero-slot 16 i, slot-empty i);
       many-numbers = refl;
-      walk = valid-first (can .valid) w;
+      walk = first-valid (can .valid) w;
       left = rw first
           (same-left (head-length ts) offsets out _ _ _ _ (ap (forced-idles (setting ts) [] 0) everything)
           (λ k. ap (task-inversions (setting ts) k []) everything) (rw by-task at all));

@@ -2,7 +2,6 @@
 use mathlib.Core.Path.{_≡_}
 use mathlib.Core.Bool.{Bool}
 use mathlib.Core.List.{List}
-use mathlib.Core.Option.{none}
 use Prim.Native.Nat.{ℕ, _+_, _*_, _-_, _≤_, _<_}
 use lib.ListN.{length, getD}
 use Rattle.rules.specs.declared.Entry.{Entry}
@@ -17,15 +16,10 @@ use Rattle.rules.specs.Image.{record-of, of-idle, of-inversion, head-length}
 use Rattle.sets.specs.Kept.{Rows}
 use Rattle.writing.specs.Writing.{put-at, record-put}
 use Rattle.timetables.specs.declared.Counts.{Counts}
-use Rattle.timetables.specs.Judged.{entries-behind, fault-behind, EntriesStand}
+use Rattle.timetables.specs.Judged.{entries-behind, EntriesValid}
 use Rattle.timetables.specs.Counted.{Counted}
 use Rattle.timetables.specs.Instants.{instant-of, idles-before, inverts}
 use Rattle.deriving.specs.Parts.{sum-first, tables-bytes}
-
--- what is kept of a set, and behind its tasks the entries of a valid timetable
-pub record EntriesValid (ts : Set) (bytes : List ℕ) (kept : Rows) (listed : ℕ) : Type 0 where
-  pub stand : EntriesStand ts bytes kept listed
-  pub no-fault : fault-behind bytes ts listed ≡ none
 
 -- no more counted than a cycle has ticks
 pub record FewCounted (n : ℕ) (c : Counts) : Type 0 where

@@ -7,7 +7,6 @@ use images::INVERSION_SIZE;
 use rules::Entry;
 use rules::Idle;
 use rules::Inversion;
-use rules::LARGEST;
 use rules::MakeAnswer;
 use rules::TOO_LONG;
 use sets::FIGURES;
@@ -23,20 +22,8 @@ ghost use lib.ListN.{length, getD};
 ghost use Rattle.rules.specs.Tasks.{Set};
 ghost use Rattle.rules.specs.Marks.{ID, PV, size};
 ghost use Rattle.rules.specs.Operations.{Derives};
-ghost use Rattle.timetables.specs.Instants.{instant-of, idles-before, inverts};
+ghost use Rattle.timetables.specs.Instants.{idles-before, inverts};
 ghost use Rattle.deriving.specs.Putting.{FewCounted, PartsBegin, IdlePut, InversionPut, tables-put, tables-behind, CanPut};
-
-// An instant that no release comes to: there is no next job.
-const NEVER: u32 = LARGEST;
-
-// The instant from which a job is waiting for the processor: the larger of the free instant and the least release among jobs not yet started.
-fn instant(n: usize, release: &[u32; 16], free: u32) -> u32
-    requires few { ⌜ n ≤ 16 ⌝ }
-    requires slots { ⌜ length (now release) ≡ 16 ⌝ }
-    ensures { λ r. ⌜ r ≡ instant-of n (now (release .entry)) free ⌝ }
-{
-    sets::later(free, sets::least(n, NEVER, release))
-}
 
 // The byte offset of each task's first PV record, behind the set and the idles.
 fn first_offsets(n: u32, c: Counts) -> [usize; 16]
@@ -73,7 +60,7 @@ fn put_idle(
     if !timetables::idles_before(n, release, e.task as usize, free, e.start) {
         return place;
     }
-    let now = instant(n, release, free);
+    let now = timetables::instant(n, release, free);
     writing::put_idle(
         out,
         place,

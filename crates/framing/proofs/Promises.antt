@@ -1,32 +1,31 @@
 -- What framing promises: its contract leaves one answer, and an answer tells what the rule book's framing comes to. Assumes nothing.
 use mathlib.Core.Path.{_≡_, sym, _∙_, ap}
-use mathlib.Core.Bool.{Bool, true, false}
+use mathlib.Core.Bool.{Bool}
 use mathlib.Core.List.{List}
 use Prim.Native.Nat.{ℕ, suc, _≤_}
 use native.Mathlib.Omega.{arith}
 use lib.ListN.{getD, drop}
 use Rattle.rules.specs.declared.Place.{Place}
 use Rattle.rules.specs.declared.Layout.{Layout}
-use Rattle.rules.specs.declared.Refusal.{Refusal}
 use Rattle.rules.specs.declared.Located.{Located}
-use Rattle.rules.specs.Refusals.{Judged, gives, refuses, or-else, unless}
+use Rattle.rules.specs.Refusals.{Judged, gives, refuses}
 use Rattle.rules.specs.Marks.{head-count-of, head-length-of}
-use Rattle.rules.specs.Framing.{start-place, nothing-follows, index-of-end, frame-records, frame}
+use Rattle.rules.specs.Framing.{start-place, frame-records}
 use Rattle.rules.specs.Located.{bare, RefusedAt}
-use Rattle.rules.proofs.Cases.{clash, by-judged}
+use Rattle.rules.proofs.Cases.{clash}
 use Rattle.rules.proofs.Locations.{refused-at, one-refused}
 use Rattle.rules.proofs.FramingTurns as turns
 use Rattle.framing.specs.declared.FrameAnswer.{FrameAnswer}
 use Rattle.framing.specs.declared.FrameAnswer.the-variants.{Framed, Refused}
 use Rattle.framing.specs.declared.TasksAnswer.{TasksAnswer}
 use Rattle.framing.specs.declared.TasksAnswer.the-variants as tasks-case
-use Rattle.framing.specs.Frames.{BehindTasks, TasksFramed, frame-answer}
-use Rattle.framing.proofs.FromPlace.{listed-from, refused-from}
+use Rattle.framing.specs.Frames.{BehindTasks, TasksFramed, frame-as, frame-answer}
+use Rattle.framing.proofs.FromPlace.{refused-from}
 
 -- two results that meet the contract of `frame` are equal
-pub one-answer : (kind : ℕ) (bytes : List ℕ) (r q : FrameAnswer) → r ≡ frame-answer bytes (frame kind bytes) →
-    q ≡ frame-answer bytes (frame kind bytes) → r ≡ q
-one-answer kind bytes r q e f = e ∙ sym f
+pub one-answer : (whole : Bool) (kind : ℕ) (bytes : List ℕ) (r q : FrameAnswer) → r ≡ frame-answer bytes (frame-as whole kind bytes) →
+    q ≡ frame-answer bytes (frame-as whole kind bytes) → r ≡ q
+one-answer whole kind bytes r q e f = e ∙ sym f
 
 -- what is framed has that layout, and what is refused that refusal
 pub framed-is : (bytes : List ℕ) (z : Judged Layout) (l : Layout) → Framed l ≡ frame-answer bytes z → z ≡ gives l
@@ -55,11 +54,6 @@ place-told bytes s b =
     } ≡ behind (getD bytes 4 0) = rw (b .index, b .offset, b .rank, b .due, b .listed, b .inversions, b .tasks) in
     known
 
--- bytes that follow EN are refused at its place
-followed-place : (c : Bool) (number place : ℕ) (l : Layout) (r : Refusal) → or-else (unless c number place) (gives l) ≡ refuses r → r .place ≡ place
-followed-place true number place l r e = clash (cc)
-followed-place false number place l r e = cc
-
 -- framing from there on refuses no task
 not-both : (kind : ℕ) (bytes : List ℕ) (s : Place) (r : Located) → TasksFramed kind bytes (tasks-case.Framed s) →
     TasksFramed kind bytes (tasks-case.Refused r) → ⊥
@@ -67,13 +61,7 @@ unfolding TasksFramed
 not-both kind bytes s r a b =
     let late : suc (getD bytes 4 0) ≤ s .index = omega (arith, a .1 .index, a .1 .tasks) in
     let f = turns.frames kind s (drop (s .offset) bytes) in
-    by-judged (frame-records kind start-place bytes)
-    (λ l u.
-    let here = followed-place (nothing-follows bytes l) 10 (index-of-end l) l (bare r) (rw u at (b .0 .judged)) in
-    omega (arith, b .1, here, late, a .1 .index, listed-from f l (sym (a .0 .same) ∙ u) (omega (arith, a .1 .rank)) .0))
-    (λ q u.
-    let same : _≡_ {A = Judged Layout} (refuses q) (refuses (bare r)) = rw u at (b .0 .judged) in
-    omega (arith, b .1, late, refused-from f (bare r) (sym (a .0 .same) ∙ u ∙ same)))
+    omega (arith, b .1, late, refused-from f (bare r) (sym (a .0 .same) ∙ b .0 .judged))
 
 -- two results that meet the contract of `frame_tasks` are equal
 pub one-tasks-answer : (kind : ℕ) (bytes : List ℕ) (r q : TasksAnswer) → TasksFramed kind bytes r → TasksFramed kind bytes q → r ≡ q

@@ -1,6 +1,6 @@
 -- One step of framing: the tests of a record in their order, and a turn of framing a whole image. Assumes nothing.
 use mathlib.Core.Path.{_≡_, refl, sym, _∙_, ap, ap₂}
-use mathlib.Core.Bool.{true, false}
+use mathlib.Core.Bool.{Bool, true, false}
 use mathlib.Core.List.{List, [], _∷_}
 use mathlib.Core.Option.{none, some}
 use Prim.Native.Nat.{ℕ, zero, suc, _+_, _-_, _≤_, _<_}
@@ -26,7 +26,7 @@ use Rattle.framing.specs.declared.Step.the-variants.{GoesOn, Ended, Refu
 use Rattle.framing.specs.declared.FrameAnswer.the-variants as frame-case
 use Rattle.images.specs.Table.{mark-of, found-at}
 use Rattle.framing.specs.Allowed.{kind-at, allowed-at}
-use Rattle.framing.specs.Frames.{refusal-at, Whole, Follows, Steps, Reached, frame-answer}
+use Rattle.framing.specs.Frames.{refusal-at, Whole, Follows, Steps, Reached, frame-as, frame-answer}
 use Rattle.framing.proofs.PlaceLaws.{placed-after, end-index, refused-place}
 
 -- what a place inside a list has is found there
@@ -113,6 +113,12 @@ module _ (kind : ℕ) (bytes : List ℕ) (s : Place) where
           u,
         )
 
+-- a refusal by framing up to EN is that of a whole image as well
+pub refused-as : (whole : Bool) (kind : ℕ) {bytes : List ℕ} {q : Located} → RefusedAt bytes (frame-records kind start-place bytes) q →
+    frame-case.Refused q ≡ frame-answer bytes (frame-as whole kind bytes)
+refused-as true kind w = rw (w .judged) (ap frame-case.Refused (w .there))
+refused-as false kind w = rw (w .judged) (ap frame-case.Refused (w .there))
+
 -- a turn of framing: what has come so far, with what one record comes to
 module _ (kind : ℕ) (bytes : List ℕ) (s : Place) (r : Step) (steps : Steps kind bytes s r) where
   pub goes-further : (t : Place) → r ≡ GoesOn t → Steps kind bytes s (GoesOn t)
@@ -125,17 +131,17 @@ module _ (kind : ℕ) (bytes : List ℕ) (s : Place) (r : Step) (steps : Steps k
     reached t e = let f = goes-further t e in record { placed = f .0; same = re .same ∙ f .2 }
 
     -- a refusal of the record is the image's, located where the record begins
-    pub refused-frame : (q : Located) → r ≡ Refused q → RefusedAt bytes (frame kind bytes) q
+    pub refused-frame : (q : Located) → r ≡ Refused q → RefusedAt bytes (frame-records kind start-place bytes) q
     unfolding Steps
     refused-frame q e =
         let w : Steps kind bytes s (Refused q) = rw e at steps in
         let z : frame-records kind start-place bytes ≡ refuses (bare q) = re .same ∙ w .0 in
         let f : frame kind bytes ≡ refuses (bare q) = rw z in
         let there : q .offset ≡ offset-of (q .place) bytes = rw (w .1, w .2) (sym (begins-offset (re .placed .begins))) in
-        record { judged = f; there = rw (framing-names kind bytes (bare q) f) (λ i. record { number = q .number; place = q .place; offset = there i }) }
+        record { judged = z; there = rw (framing-names kind bytes (bare q) f) (λ i. record { number = q .number; place = q .place; offset = there i }) }
 
-    pub refused : (q : Located) → r ≡ Refused q → frame-case.Refused q ≡ frame-answer bytes (frame kind bytes)
-    refused q e = let w = refused-frame q e in rw (w .judged) (ap frame-case.Refused (w .there))
+    pub refused : (whole : Bool) (q : Located) → r ≡ Refused q → frame-case.Refused q ≡ frame-answer bytes (frame-as whole kind bytes)
+    refused whole q e = refused-as whole kind (refused-frame q e)
 
     module _ (l : Layout) (ended : r ≡ Ended l) where
       layout-is : frame-records kind start-place bytes ≡ gives l
@@ -146,8 +152,11 @@ module _ (kind : ℕ) (bytes : List ℕ) (s : Place) (r : Step) (steps : Steps k
       unfolding Steps
       end-is = (rw ended at steps) .1
 
-      pub followed : l .ended < length bytes → frame-case.Refused (refusal-at 10 s) ≡ frame-answer bytes (frame kind bytes)
-      followed h = rw (layout-is, lt-leb (length bytes) (l .ended) h, end-is, begins-offset (re .placed .begins))
+      pub followed : {whole : Bool} → whole ≡ true → l .ended < length bytes → frame-case.Refused (refusal-at 10 s) ≡ frame-answer bytes (frame-as whole kind bytes)
+      followed e h = rw (e, layout-is, lt-leb (length bytes) (l .ended) h, end-is, begins-offset (re .placed .begins))
 
-      pub framed : length bytes ≤ l .ended → frame-case.Framed l ≡ frame-answer bytes (frame kind bytes)
-      framed h = rw (layout-is, le-leb (length bytes) (l .ended) h)
+      pub framed : {whole : Bool} → whole ≡ true → length bytes ≤ l .ended → frame-case.Framed l ≡ frame-answer bytes (frame-as whole kind bytes)
+      framed e h = rw (e, layout-is, le-leb (length bytes) (l .ended) h)
+
+      pub in-front : {whole : Bool} → whole ≡ false → frame-case.Framed l ≡ frame-answer bytes (frame-as whole kind bytes)
+      in-front e = rw (e, layout-is)

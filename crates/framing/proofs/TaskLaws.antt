@@ -1,6 +1,6 @@
 -- Framing of TS and the tasks: what is known at each place up to the one behind the last task. Assumes nothing.
 use mathlib.Core.Path.{_≡_, refl, _∙_, ap}
-use mathlib.Core.Bool.{true}
+use mathlib.Core.Bool.{Bool, true}
 use mathlib.Core.List.{List, [], _∷_}
 use mathlib.Core.Option.{none}
 use Prim.Native.Nat.{ℕ, zero, suc, _+_, _-_, _*_, _≤_, _<_}
@@ -15,7 +15,7 @@ use Rattle.rules.specs.Refusals.{unless}
 use Rattle.rules.specs.Tasks.{few-enough}
 use Rattle.rules.specs.Priority.{slot}
 use Rattle.rules.specs.Marks.{Mark, TS, TK, row, size, head-length-of, values}
-use Rattle.rules.specs.Framing.{may-follow, head-fault, tasks-due, goes-on, frame}
+use Rattle.rules.specs.Framing.{may-follow, head-fault, tasks-due, goes-on}
 use Rattle.rules.proofs.Cases.{by-nat, both-true, first-none, unless-none}
 use Rattle.rules.proofs.Marked.{due-turn, later-turn}
 use Rattle.rules.proofs.FramingTurns as turns
@@ -24,8 +24,8 @@ use Rattle.framing.specs.declared.Step.the-variants as step-case
 use Rattle.framing.specs.declared.FrameAnswer.the-variants as frame-case
 use Rattle.framing.specs.declared.TasksAnswer.{TasksAnswer}
 use Rattle.framing.specs.declared.TasksAnswer.the-variants.{Framed, Refused}
-use Rattle.framing.specs.Frames.{Placed, Steps, Reached, TowardsTasks, BehindTasks, TasksFramed, frame-answer}
-use Rattle.framing.proofs.StepLaws.{goes-further, refused-frame}
+use Rattle.framing.specs.Frames.{Placed, Steps, Reached, TowardsTasks, BehindTasks, TasksFramed, frame-as, frame-answer}
+use Rattle.framing.proofs.StepLaws.{goes-further, refused-frame, refused-as}
 
 -- a TS that passes its tests counts 1 to 16 tasks
 pub counts-tasks : (kind index : ℕ) (v : List ℕ) → head-fault kind index v ≡ none → (1 ≤ slot v 2) × (slot v 2 ≤ 16)
@@ -150,6 +150,6 @@ module _ (kind : ℕ) (bytes : List ℕ) (a : TasksAnswer) (framed : TasksFramed
   tasks-reached s e = rw e at framed
 
   -- and has the refusal that is answered
-  pub tasks-refused : (r : Located) → a ≡ Refused r → frame-case.Refused r ≡ frame-answer bytes (frame kind bytes)
+  pub tasks-refused : (whole : Bool) (r : Located) → a ≡ Refused r → frame-case.Refused r ≡ frame-answer bytes (frame-as whole kind bytes)
   unfolding TasksFramed
-  tasks-refused r e = let w : TasksFramed kind bytes (Refused r) = rw e at framed in rw (w .0 .judged) (ap frame-case.Refused (w .0 .there))
+  tasks-refused whole r e = let w : TasksFramed kind bytes (Refused r) = rw e at framed in refused-as whole kind (w .0)

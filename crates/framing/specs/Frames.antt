@@ -1,6 +1,6 @@
 -- What framing's functions answer, in the rule book's terms. Assumes nothing.
 use mathlib.Core.Path.{_≡_}
-use mathlib.Core.Bool.{true}
+use mathlib.Core.Bool.{Bool, true, false}
 use mathlib.Core.List.{List}
 use Prim.Native.Nat.{ℕ, zero, suc, _+_, _*_, _≤_, _<_}
 use lib.ListN.{length, getD, drop}
@@ -131,7 +131,12 @@ pub record BehindTasks (bytes : List ℕ) (s : Place) : Type 0 where
 -- framing of TS and the tasks comes to the place behind them, or the image is refused at one of these records
 unfoldable pub TasksFramed : ℕ → List ℕ → TasksAnswer → Type 0
 TasksFramed kind bytes (tasks-case.Framed s) = Reached kind bytes s × BehindTasks bytes s
-TasksFramed kind bytes (tasks-case.Refused r) = RefusedAt bytes (frame kind bytes) r × (r .place ≤ getD bytes 4 0)
+TasksFramed kind bytes (tasks-case.Refused r) = RefusedAt bytes (frame-records kind start-place bytes) r × (r .place ≤ getD bytes 4 0)
+
+-- framing of a whole image, behind whose EN nothing follows, or of the one at the front
+abbrev pub frame-as : Bool → ℕ → List ℕ → Judged Layout
+frame-as true kind bytes = frame kind bytes
+frame-as false kind bytes = frame-records kind start-place bytes
 
 -- what framing comes to, a refusal located in the image
 abbrev pub frame-answer : List ℕ → Judged Layout → FrameAnswer

@@ -27,11 +27,10 @@ ghost use mathlib.Core.Path.{_≡_};
 ghost use Prim.Native.Nat.{_<_, _≤_};
 ghost use lib.ListN.{length};
 ghost use Rattle.rules.specs.Marks as book-marks;
-ghost use Rattle.rules.specs.Framing.{frame as frame-of};
 ghost use Rattle.images.specs.Table.{mark-of};
 ghost use Rattle.framing.specs.Allowed.{kind-at, allowed-at};
 ghost use Rattle.framing.specs.Frames.{refusal-at, Placed, Whole, Follows, Steps, Room, behind-run, Reached, RunOf, TowardsTasks, TasksPassed, TasksFramed};
-ghost use Rattle.framing.specs.Frames.{frame-answer};
+ghost use Rattle.framing.specs.Frames.{frame-as, frame-answer};
 ghost use Rattle.framing.specs.SetRead.{set-read, set-located};
 
 // The bytes of a body of TS, TK and EN.
@@ -312,10 +311,11 @@ pub fn frame_tasks(image: &[u8], kind: u32) -> TasksAnswer
     }
 }
 
-// Framing from a place that it comes to: record by record, left from inside with the first refusal or at EN, behind which nothing may follow.
-pub fn frame_from(image: &[u8], kind: u32, place: Place) -> FrameAnswer
+// Framing from a place that it comes to: record by record, left from inside with the first refusal or at EN, behind which nothing may follow where the
+// image is whole.
+pub fn frame_from(image: &[u8], kind: u32, whole: bool, place: Place) -> FrameAnswer
     requires { ⌜ Reached kind (now image) place ⌝ }
-    ensures { λ r. ⌜ r ≡ frame-answer (now (image .entry)) (frame-of kind (now (image .entry))) ⌝ }
+    ensures { λ r. ⌜ r ≡ frame-answer (now (image .entry)) (frame-as whole kind (now (image .entry))) ⌝ }
 {
     let mut s = place;
     'records: loop {
@@ -327,8 +327,10 @@ pub fn frame_from(image: &[u8], kind: u32, place: Place) -> FrameAnswer
                 break 'records FrameAnswer::Refused(r);
             }
             Step::Ended(l) => {
-                if l.ended < image.len() {
-                    break 'records FrameAnswer::Refused(refusal_at(10, s));
+                if whole {
+                    if l.ended < image.len() {
+                        break 'records FrameAnswer::Refused(refusal_at(10, s));
+                    }
                 }
                 break 'records FrameAnswer::Framed(l);
             }
@@ -336,9 +338,9 @@ pub fn frame_from(image: &[u8], kind: u32, place: Place) -> FrameAnswer
     }
 }
 
-// Framing of a whole image of tables: its runs of ID and PV records at once.
-pub fn frame(image: &[u8]) -> FrameAnswer
-    ensures { λ r. ⌜ r ≡ frame-answer (now (image .entry)) (frame-of 2 (now (image .entry))) ⌝ }
+// Framing of an image of tables, a whole one or the one at the front: its runs of ID and PV records at once.
+pub fn frame(image: &[u8], whole: bool) -> FrameAnswer
+    ensures { λ r. ⌜ r ≡ frame-answer (now (image .entry)) (frame-as whole 2 (now (image .entry))) ⌝ }
 {
     match frame_tasks(image, 2) {
         TasksAnswer::Refused(r) => FrameAnswer::Refused(r),
@@ -349,6 +351,7 @@ pub fn frame(image: &[u8]) -> FrameAnswer
             frame_from(
                 image,
                 2,
+                whole,
                 past(t, PV, inversions, t.listed, t.inversions + inversions),
             )
         }

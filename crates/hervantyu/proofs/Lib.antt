@@ -3,6 +3,7 @@ pub mod Returned
 pub mod FaceSets
 pub mod FaceImages
 pub mod FaceIntakes
+pub mod FaceAxes
 pub mod FedFragments
 pub mod FaceTurns
 pub mod ServedCalls

@@ -8,6 +8,7 @@ use mathlib.Core.Option.{none, some}
 use Prim.Native.Nat.{ℕ, suc, _+_, _*_, _/_, _%_, _≤_, _<_}
 use native.Mathlib.Omega.{arith}
 use lib.ListN.{length, take, drop, replicate}
+use lib.IntN.{ℤ}
 use Rattle.fields.specs.Number.{Bytes}
 use Rattle.rules.specs.declared.Entry.{Entry}
 use Rattle.rules.specs.declared.Figures.{Figures}
@@ -20,6 +21,8 @@ use Rattle.rules.specs.Tasks.{Set, task, release, due, all-jobs, hyperperiod, m
 use Rattle.rules.specs.Timetable.{entry-at, job-at}
 use Rattle.rules.specs.Priority.{slot}
 use Rattle.rules.specs.Operations.{read-timetable}
+use Rattle.rules.specs.Axis.{front}
+use Rattle.rules.specs.AxisRules.{FiguresOfImage}
 use Rattle.rules.specs.Dispatcher.{number-count}
 use Rattle.rules.specs.GoingOn.{going-tests}
 use Rattle.rules.specs.Calls.{all-starts}
@@ -29,13 +32,14 @@ use Rattle.numbers.specs.Numbers.{set-from, state-from}
 use Rattle.sets.specs.Sets.{GoodInMemory}
 use Rattle.sets.proofs.Promises as sets
 use Rattle.hervantyu.specs.Lent.{SetJudged, CheckTold, TimetableChecked, TablesChecked, Written, Derived, Rebuilt}
-use Rattle.hervantyu.specs.Lent.{Holds, Fits, FragmentTaken, IntakeBegun, IntakeClosed, IntakeRebuilt, TurnTold, Begun, GoneOn}
+use Rattle.hervantyu.specs.Lent.{Figured, Holds, Fits, FragmentTaken, IntakeBegun, IntakeClosed, IntakeRebuilt, TurnTold, Begun, GoneOn}
 use Rattle.hervantyu.specs.Feeding.{whole, IntakeLog, Feeds}
 use Rattle.hervantyu.specs.Runs.{Honest, Log}
 use Rattle.hervantyu.proofs.Returned.{zero-exactly, zero-place, refusal-exactly}
 use Rattle.hervantyu.proofs.FaceSets as face-sets
 use Rattle.hervantyu.proofs.FaceImages as face-images
 use Rattle.hervantyu.proofs.FaceIntakes as face-intakes
+use Rattle.hervantyu.proofs.FaceAxes as face-axes
 use Rattle.hervantyu.proofs.FedFragments as fed
 use Rattle.hervantyu.proofs.FaceTurns as face-turns
 use Rattle.hervantyu.proofs.ServedCalls.{logged, goes-on, stays, ends, a-log, an-early-call}
@@ -88,6 +92,18 @@ pub one-rebuild-outcome : (image old-output : List ℕ) {old-length r l r′ l�
     Rebuilt image old-output old-length r w l out → Rebuilt image old-output old-length r′ w′ l′ out′ →
     (r ≡ r′) × (w ≡ w′) × (l ≡ l′) × (out ≡ out′)
 one-rebuild-outcome image old-output = one-written-outcome
+
+-- two outcomes of `hv_figures` are equal: the number, the location, what the two lent numbers hold, and every slot of the figures
+pub one-figures-outcome : (images : List ℕ) (old : List ℤ) {old-count old-used r count used r′ count′ used′ : ℕ} {w w′ : List ℕ} {left left′ : List ℤ} →
+    Figured images old old-count old-used r w count used left → Figured images old old-count old-used r′ w′ count′ used′ left′ →
+    (r ≡ r′) × (w ≡ w′) × (count ≡ count′) × (used ≡ used′) × (left ≡ left′)
+one-figures-outcome images old a b = (
+  same (a .told .its-number) (b .told .its-number),
+  same (a .told .its-location) (b .told .its-location),
+  same (a .told .its-count) (b .told .its-count),
+  same (a .told .its-used) (b .told .its-used),
+  same (a .its-figures) (b .its-figures),
+)
 
 -- two outcomes of taking a fragment are equal: the number, the intake's two numbers, and every byte of the buffer
 pub one-take-outcome : {numbers buffer fragment k k′ b b′ : List ℕ} {r r′ : ℕ} →
@@ -288,6 +304,42 @@ pub derive-after-rebuild : (image old : List ℕ) {old-length l : ℕ} {w out : 
     (other : List ℕ) {other-length r′ l′ : ℕ} {w′ out′ : List ℕ} → Derived (take l out) other other-length r′ w′ l′ out′ → length image ≤ length other →
     (r′ ≡ 0) × (w′ ≡ 0 ∷ 0 ∷ []) × (l′ ≡ length image) × (out′ ≡ image ++ drop (length image) other)
 derive-after-rebuild = face-images.back-and-there
+
+-- `hv_figures`: the image at the front of the bytes is measured, and what follows its EN is left alone
+module _ (images : List ℕ) (old : List ℤ) {old-count old-used r count used : ℕ} {w : List ℕ} {left : List ℤ}
+    (told : Figured images old old-count old-used r w count used left) where
+  -- 0 is returned exactly where that image is accepted and there is room for its figures, which are those that document 02 tells of
+  pub figures-accepted-exactly : Bytes images → (r ≡ 0) ↔ ((fs : List ℤ) × FiguresOfImage images fs × (length fs ≤ length old))
+  figures-accepted-exactly b = face-axes.figures-zero images old told b
+
+  -- they are written in order, with their count and the bytes of their image, and later slots keep their values
+  pub figures-writes-exactly : Bytes images → (fs : List ℤ) → FiguresOfImage images fs → length fs ≤ length old →
+      (w ≡ 0 ∷ 0 ∷ []) × (count ≡ length fs) × (used ≡ length (front images)) × (left ≡ fs ++ drop (length fs) old)
+  figures-writes-exactly b fs f room = face-axes.figures-written images old told b fs f room
+
+  -- 20 is returned exactly where there is no room for them
+  pub figures-too-many-exactly : Bytes images → (r ≡ 20) ↔ ((fs : List ℤ) × FiguresOfImage images fs × (length old < length fs))
+  figures-too-many-exactly b = face-axes.figures-twenty images old told b
+
+  -- with place and byte offset 0
+  pub figures-too-many-location : Bytes images → r ≡ 20 → w ≡ 0 ∷ 0 ∷ []
+  figures-too-many-location b t = face-axes.figures-nowhere images old told b t
+
+  -- any other number is returned as of `hv_check_tables`, with the same place and byte
+  pub figures-refused-as-checking : 1 ≤ r → (r ≡ 20 → ⊥) → TablesChecked (front images) r w
+  figures-refused-as-checking one not-20 = face-axes.figures-checked images old told one not-20
+
+  -- and on every refusal nothing else that was lent changes
+  pub figures-refused-keeps : 1 ≤ r → (count ≡ old-count) × (used ≡ old-used) × (left ≡ old)
+  figures-refused-keeps one = face-axes.figures-kept images old told one
+
+-- an accepted image is the one at the front, whatever bytes follow it
+pub front-image : {image : List ℕ} {ts : Set} {τ : List Entry} → TableImage image ts τ → (rest : List ℕ) → front (image ++ rest) ≡ image
+front-image t rest = face-axes.front-first t rest
+
+-- the figures of an image are one list
+pub only-one-axis : {images : List ℕ} {x y : List ℤ} → Bytes images → FiguresOfImage images x → FiguresOfImage images y → x ≡ y
+only-one-axis {images} b f g = face-axes.one-measure images b f g
 
 -- DEMAND 1, R-1, hv_intake_take: any two numbers, any buffer and any fragment
 

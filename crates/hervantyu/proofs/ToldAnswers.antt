@@ -7,12 +7,13 @@ use Rattle.rules.specs.declared.Located.{Located}
 use Rattle.rules.specs.declared.StartAnswer.{StartAnswer}
 use Rattle.rules.specs.declared.CheckAnswer.{CheckAnswer}
 use Rattle.rules.specs.declared.MakeAnswer.{MakeAnswer}
+use Rattle.rules.specs.declared.AxisAnswer.{AxisAnswer}
 use Rattle.rules.specs.declared.Turn.{Turn}
 use Rattle.rules.specs.Refusals.{Told, tells, tells-refusal}
 use Rattle.rules.specs.Priority.{slot}
 use Rattle.rules.proofs.Cases.{clash}
 use Rattle.dispatcher.specs.Stored.{TurnStored}
-use Rattle.hervantyu.specs.Lent.{value-if, value-or, CheckTold, MakeTold, StartTold, TurnTold}
+use Rattle.hervantyu.specs.Lent.{value-if, value-or, CheckTold, MakeTold, StartTold, TurnTold, AxisTold}
 
 -- an answer with values: number and place are 0, and a lent number holds its value
 module _ (t : Told) (values : List ℕ) (e : t ≡ tells values) where
@@ -48,6 +49,11 @@ check-told {number = number} {location = location} e t = subst (λ (a : CheckAns
 pub make-told : {a b : MakeAnswer} {old number length : ℕ} {location : List ℕ} → a ≡ b → MakeTold a old number location length →
     MakeTold b old number location length
 make-told {old = old} {number = number} {length = length} {location = location} e t = subst (λ (a : MakeAnswer). MakeTold a old number location length) e t
+
+pub axis-told : {a b : AxisAnswer} {old-count old-used number count used : ℕ} {location : List ℕ} → a ≡ b →
+    AxisTold a old-count old-used number location count used → AxisTold b old-count old-used number location count used
+axis-told {old-count = c} {old-used = u} {number = number} {count = count} {used = used} {location = location} e t =
+    subst (λ (a : AxisAnswer). AxisTold a c u number location count used) e t
 
 start-told : {a b : StartAnswer} {old start : List ℕ} {number : ℕ} → a ≡ b → StartTold a old number start → StartTold b old number start
 start-told {old = old} {start = start} {number = number} e t = subst (λ (a : StartAnswer). StartTold a old number start) e t

@@ -3,18 +3,22 @@ use mathlib.Core.Path.{_≡_}
 use mathlib.Core.List.{List, [], _∷_}
 use Prim.Native.Nat.{ℕ, zero, suc, _+_, _≤_}
 use lib.ListN.{length}
+use lib.IntN.{ℤ}
 use Rattle.rules.specs.declared.Turn.{Turn}
 use Rattle.rules.specs.declared.StartAnswer.{StartAnswer}
 use Rattle.rules.specs.declared.StartAnswer.the-variants as start-case
 use Rattle.rules.specs.declared.CheckAnswer.{CheckAnswer}
 use Rattle.rules.specs.declared.MakeAnswer.{MakeAnswer}
 use Rattle.rules.specs.declared.MakeAnswer.the-variants.{Made, Refused}
+use Rattle.rules.specs.declared.AxisAnswer.{AxisAnswer}
+use Rattle.rules.specs.declared.AxisAnswer.the-variants as axis-case
 use Rattle.rules.specs.declared.Intake.the-variants.{Shut}
-use Rattle.rules.specs.Refusals.{Told, Judged, set-tells, check-tells, make-tells, take-tells, start-tells}
+use Rattle.rules.specs.Refusals.{Told, Judged, set-tells, check-tells, make-tells, axis-tells, take-tells, start-tells}
 use Rattle.rules.specs.Priority.{slot}
 use Rattle.rules.specs.Tasks.{judge-set}
 use Rattle.rules.specs.Operations.{check-timetable, check-tables, output-after, derive, derive-output, rebuild, rebuild-output}
 use Rattle.rules.specs.Intake.{begun, held, joined, holding, close, rebuild-held, rebuild-held-output, intake-from, intake-numbers}
+use Rattle.rules.specs.Axis.{front, measured-into, axis-answer}
 use Rattle.rules.specs.Dispatcher.{numbers, begin, go-on}
 use Rattle.numbers.specs.Numbers.{set-from, state-from}
 
@@ -69,6 +73,27 @@ Derived image old-output = Written (derive image old-output) (derive-output imag
 
 abbrev pub Rebuilt : List ℕ → List ℕ → ℕ → ℕ → List ℕ → ℕ → List ℕ → Type 0
 Rebuilt image old-output = Written (rebuild image old-output) (rebuild-output image old-output)
+
+-- the count of figures afterwards, and the bytes that their image has: the answer's, or what they held where it is a refusal
+abbrev pub count-or : AxisAnswer → ℕ → ℕ
+count-or (axis-case.Measured a) old = a .figures
+count-or (axis-case.Refused r) old = old
+
+abbrev pub used-or : AxisAnswer → ℕ → ℕ
+used-or (axis-case.Measured a) old = a .used
+used-or (axis-case.Refused r) old = old
+
+-- what measuring returns and leaves in the lent numbers
+pub record AxisTold (answer : AxisAnswer) (old-count old-used number : ℕ) (location : List ℕ) (count used : ℕ) : Type 0 where
+  pub its-number : number ≡ axis-tells answer .number
+  pub its-location : location ≡ location-of (axis-tells answer)
+  pub its-count : count ≡ count-or answer old-count
+  pub its-used : used ≡ used-or answer old-used
+
+-- and `hv_figures` in every slot of the figures
+pub record Figured (images : List ℕ) (old : List ℤ) (old-count old-used number : ℕ) (location : List ℕ) (count used : ℕ) (figures : List ℤ) : Type 0 where
+  pub told : AxisTold (axis-answer (front images) (measured-into (length old) images)) old-count old-used number location count used
+  pub its-figures : figures ≡ output-after (measured-into (length old) images) old
 
 -- what `hv_intake_begin` leaves in the intake's two numbers, whatever they were
 abbrev pub IntakeBegun : List ℕ → Type 0

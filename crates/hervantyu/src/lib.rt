@@ -2,6 +2,7 @@
 // place, and for an image the record's byte offset behind it, where they are lent; on a refusal nothing else that was lent changes, but for the dispatcher's
 // state and the intake's.
 use numbers::NUMBERS;
+use rules::AxisAnswer;
 use rules::CheckAnswer;
 use rules::Intake;
 use rules::Located;
@@ -14,6 +15,7 @@ ghost use Rattle.rules.specs.Refusals.{tells-refusal, start-tells};
 ghost use Rattle.rules.specs.declared.Intake.the-variants as book-intake;
 ghost use Rattle.rules.specs.Intake.{intake-from, intake-numbers};
 ghost use Rattle.hervantyu.specs.Lent.{location-of, SetJudged, CheckTold, TimetableChecked, TablesChecked, MakeTold, Derived, Rebuilt};
+ghost use Rattle.hervantyu.specs.Lent.{AxisTold, Figured};
 ghost use Rattle.hervantyu.specs.Lent.{IntakeBegun, FragmentTaken, IntakeClosed, IntakeRebuilt, StartTold, Begun, GoneOn};
 
 #[no_mangle]
@@ -190,6 +192,37 @@ pub extern "C" fn hv_intake_rebuild(
     ensures { λ r. ⌜ IntakeRebuilt (now (k .entry)) (now (buffer .entry)) (now (out .entry)) (now (length .entry)) r (now (location .exit)) (now (length .exit)) (now (out .exit)) (now (k .exit)) ⌝ }
 {
     told_make(intake::rebuild(shut(k), buffer, out), location, length)
+}
+
+// What measuring answered, told through the location, the count of figures and the bytes used.
+fn told_axis(answer: AxisAnswer, location: &mut [u64; 2], count: &mut u64, used: &mut u64) -> u32
+    ensures { λ r. ⌜ AxisTold answer (now (count .entry)) (now (used .entry)) r (now (location .exit)) (now (count .exit)) (now (used .exit)) ⌝ }
+{
+    match answer {
+        AxisAnswer::Measured(a) => {
+            *location = [0u64; 2];
+            *count = a.figures as u64;
+            *used = a.used as u64;
+            0
+        }
+        AxisAnswer::Refused(r) => {
+            *location = located(r);
+            r.number
+        }
+    }
+}
+
+#[no_mangle]
+pub extern "C" fn hv_figures(
+    images: &[u8],
+    numbers: &mut [i64],
+    location: &mut [u64; 2],
+    count: &mut u64,
+    used: &mut u64,
+) -> u32
+    ensures { λ r. ⌜ Figured (now (images .entry)) (now (numbers .entry)) (now (count .entry)) (now (used .entry)) r (now (location .exit)) (now (count .exit)) (now (used .exit)) (now (numbers .exit)) ⌝ }
+{
+    told_axis(figures::measure(images, numbers), location, count, used)
 }
 
 // What beginning or going on answered, told through the start.

@@ -1,5 +1,3 @@
-pub mod Decimal
-pub mod TextPuts
 pub mod TextLengths
 pub mod Standing
 pub mod Listing

@@ -19,9 +19,10 @@ use Rattle.rules.proofs.Positions.{count-more, count-same}
 use Rattle.images.specs.Bodies.{part-of, head-of, entry-of}
 use Rattle.framing.specs.SetRead.{set-read}
 use Rattle.writing.proofs.Puts.{put-none, put-length}
+use Rattle.text.specs.Puts.{PutAt}
+use Rattle.text.proofs.TextPuts.{texts-put, text-at-front, second-fits}
 use Rattle.lines.specs.Text.{line, entry-line, entry-lines, ok-line, listing-of}
-use Rattle.lines.specs.Lists.{PutAt, CanList, Lists}
-use Rattle.lines.proofs.TextPuts.{texts-put, text-at-front, second-fits}
+use Rattle.lines.specs.Lists.{CanList, Lists}
 use Rattle.lines.proofs.TextLengths.{lines-within, few-entries, job-low, end-low}
 use Rattle.lines.proofs.Standing.{image-long, head-stands, task-stands, entry-stands, one-image}
 

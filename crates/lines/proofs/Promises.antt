@@ -20,12 +20,10 @@ use Rattle.rules.proofs.Cases.{by-le}
 use Rattle.rules.proofs.ImageOrder.{tables-refused-at}
 use Rattle.rules.proofs.Promises.{tables-byte}
 use Rattle.rules.proofs.Demand2.{rebuilds}
-use Rattle.lines.specs.Text.{decimal, line, ok-line, listing-of, refused-text, text-of, listing, longest-input, too-long, program-text}
-use Rattle.lines.specs.Lists.{AtFront, room, Listed}
-
--- a text at the front of an output leaves one answer and one output
-pub one-front : {text old : List ℕ} {r q : ℕ} {out other : List ℕ} → AtFront text old r out → AtFront text old q other → (r ≡ q) × (out ≡ other)
-one-front a b = (a .many ∙ sym (b .many), a .front ∙ sym (b .front))
+use Rattle.text.specs.Text.{decimal, refused-text, longest-input, too-long}
+use Rattle.text.proofs.Promises.{one-front}
+use Rattle.lines.specs.Text.{line, ok-line, listing-of, text-of, listing, program-text}
+use Rattle.lines.specs.Lists.{room, Listed}
 
 -- two results that meet the contract of `list` are equal
 pub one-listing : {bytes old : List ℕ} {r q : ℕ} {out other : List ℕ} → Listed bytes old r out → Listed bytes old q other → (r ≡ q) × (out ≡ other)
@@ -65,12 +63,6 @@ first-bytes-decide input =
     refused-input (take (suc longest-input) input) (omega (arith, length-take-le (suc longest-input) input l))
     ∙ sym (refused-input input (omega arith)))
     (λ l. ap program-text (take-all (suc longest-input) input (omega arith)))
-
--- the document's "refused 20 0", with document 02's third number
-pub too-long-line : refused-text too-long
-    ≡ (0x72 ∷ 0x65 ∷ 0x66 ∷ 0x75 ∷ 0x73 ∷ 0x65 ∷ 0x64 ∷ 0x20 ∷ 0x32 ∷ 0x30 ∷ 0x20 ∷ 0x30 ∷ 0x20 ∷ 0x30 ∷ 0x0A ∷ [])
-unfolding refused-text decimal
-too-long-line = refl
 
 -- the document's seven lines and "ok 7"
 pub p2-listing : listing P2-bytes

@@ -22,8 +22,9 @@ use Rattle.rules.specs.Promised.{TimetableImage, TableImage}
 use Rattle.rules.proofs.Cases.{clash, by-judged}
 use Rattle.rules.proofs.Images.{timetable-image-length}
 use Rattle.rules.proofs.Demand2.{rebuilds, rebuilds-image, accepts-tables}
-use Rattle.lines.specs.Text.{text-of, listing-of, refused-text, listing}
-use Rattle.lines.specs.Lists.{longest-image}
+use Rattle.text.specs.Text.{refused-text}
+use Rattle.lines.specs.Text.{text-of, listing-of, listing}
+use Rattle.rebuilding.specs.Rebuilt.{longest-image}
 use Rattle.lines.proofs.TextLengths.{few-entries}
 
 -- the image of a valid timetable is no longer than the longest

@@ -1,26 +1,22 @@
--- How long texts are: a line of a valid timetable has at most 20 bytes, its whole listing at most 81,928, and a refusal at most 61. Assumes nothing.
+-- How long a listing is: a line of a valid timetable has at most 20 bytes, its whole listing at most 81,928. Assumes nothing.
 use mathlib.Core.Path.{_≡_}
 use mathlib.Core.List.{List, [], _∷_, _++_}
-use Prim.Native.Nat.{ℕ, zero, suc, _+_, _*_, _^_, _≤_, _<_}
+use Prim.Native.Nat.{ℕ, zero, suc, _+_, _*_, _≤_, _<_}
 use native.Mathlib.Omega.{arith}
 use lib.Dec.{eqb}
 use lib.ListN.{length, take, length-append}
 use lib.Seq.{length-take-le}
 use Rattle.rules.specs.declared.Entry.{Entry}
-use Rattle.rules.specs.declared.Located.{Located}
 use Rattle.rules.specs.Tasks.{Set, limits, task, jobs, GoodSet}
 use Rattle.rules.specs.Timetable.{entry-at, count, job-at, end-at, ValidTimetable}
 use Rattle.rules.proofs.Cases.{by-bool, by-le}
 use Rattle.rules.proofs.GoodSets.{good-rules}
 use Rattle.rules.proofs.PriorityLaws.{due-in-cycle}
 use Rattle.rules.proofs.ValidTimetables.{valid-length}
-use Rattle.lines.specs.Text.{space, line-end, decimal, number-then, line, entry-line, entry-lines, ok-line, listing-of, refused-text}
+use Rattle.text.specs.Text.{space, line-end, number-then}
+use Rattle.text.proofs.Lengths.{number-short}
+use Rattle.lines.specs.Text.{line, entry-line, entry-lines, ok-line, listing-of}
 use Rattle.lines.specs.Lists.{room}
-use Rattle.lines.proofs.Decimal.{decimal-few}
-
--- a number below a power of ten, with the character behind it
-number-short : (k n behind : ℕ) → n < 10 ^ suc k → length (number-then n behind) ≤ suc (suc k)
-number-short k n behind h = omega (arith, length-append (decimal n) (behind ∷ []), decimal-few k n h)
 
 -- a line of a task of two digits, a job of four, a start and an end of five
 line-short : (task job start end : ℕ) → task < 100 → job < 10000 → start < 100000 → end < 100000 → length (line task job start end) ≤ 20
@@ -41,19 +37,6 @@ line-short task job start end a b c d =
 ok-short : (starts : ℕ) → starts < 10000 → length (ok-line starts) ≤ 8
 unfolding ok-line
 ok-short starts h = omega (arith, number-short 3 starts line-end h)
-
--- a refusal's line, whatever its numbers are in memory
-pub refused-short : (r : Located) → r .number < 10 ^ 10 → r .place < 10 ^ 20 → r .offset < 10 ^ 20 → length (refused-text r) ≤ 61
-unfolding refused-text
-refused-short r a b c =
-    omega (
-      arith,
-      length-append (number-then (r .number) space) (number-then (r .place) space ++ number-then (r .offset) line-end),
-      length-append (number-then (r .place) space) (number-then (r .offset) line-end),
-      number-short 9 (r .number) space a,
-      number-short 19 (r .place) space b,
-      number-short 19 (r .offset) line-end c,
-    )
 
 -- a task appears no more often than there are entries
 pub count-few : (i : ℕ) (τ : List Entry) → count i τ ≤ length τ

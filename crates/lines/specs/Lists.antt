@@ -1,24 +1,13 @@
--- What the functions that write the text leave in a lent output. Assumes nothing.
+-- What the functions that write the listing leave in a lent output. Assumes nothing.
 use mathlib.Core.Path.{_≡_}
-use mathlib.Core.List.{List, _++_}
+use mathlib.Core.List.{List}
 use Prim.Native.Nat.{ℕ, _+_, _*_, _≤_, _<_}
-use lib.ListN.{length, drop}
+use lib.ListN.{length}
 use Rattle.rules.specs.declared.Entry.{Entry}
 use Rattle.rules.specs.Tasks.{Set, limits}
-use Rattle.rules.specs.Marks.{SL, EN, size, head-length-of}
 use Rattle.rules.specs.Promised.{TimetableImage}
-use Rattle.writing.specs.Writing.{put-at}
+use Rattle.text.specs.Puts.{AtFront}
 use Rattle.lines.specs.Text.{listing-of, program-text}
-
--- a text was put at a place of an output, and the place behind it is answered
-pub record PutAt (old : List ℕ) (at : ℕ) (text : List ℕ) (r : ℕ) (out : List ℕ) : Type 0 where
-  pub behind : r ≡ at + length text
-  pub put : out ≡ put-at old at text
-
--- a text fills the front of an output, later bytes keep their values, and its length is answered
-pub record AtFront (text old : List ℕ) (r : ℕ) (out : List ℕ) : Type 0 where
-  pub many : r ≡ length text
-  pub front : out ≡ text ++ drop (length text) old
 
 -- the image of a valid timetable, and an output with room for its listing
 pub record CanList (bytes : List ℕ) (out : List ℕ) : Type 0 where
@@ -30,10 +19,6 @@ pub record CanList (bytes : List ℕ) (out : List ℕ) : Type 0 where
 -- the listing of the timetable whose image it is
 unfoldable pub Lists : List ℕ → List ℕ → ℕ → List ℕ → Type 0
 Lists bytes old r out = (ts : Set) (τ : List Entry) → TimetableImage bytes ts τ → AtFront (listing-of ts τ) old r out
-
--- the bytes of the longest image of a valid timetable: TS, 16 tasks, 4,096 entries, EN; 28,971
-abbrev pub longest-image : ℕ
-longest-image = head-length-of (limits .tasks) + limits .jobs * size SL + size EN
 
 -- room for every listing, 81,928 bytes: 4,096 lines of 20, and a last line of 8
 abbrev pub room : ℕ

@@ -6,10 +6,10 @@ use lib.ListN.{length}
 use Rattle.rules.specs.declared.Entry.{Entry}
 use Rattle.rules.specs.declared.Offsets.{Offsets}
 use Rattle.rules.specs.Refusals.{gives}
-use Rattle.rules.specs.Tasks.{Set}
+use Rattle.rules.specs.Tasks.{Set, limits}
 use Rattle.rules.specs.Setting.{Tables}
 use Rattle.rules.specs.Judging.{judge-tables}
-use Rattle.rules.specs.Marks.{SL, size, head-length-of}
+use Rattle.rules.specs.Marks.{SL, EN, size, head-length-of}
 use Rattle.rules.specs.Image.{image, records, of-entry}
 use Rattle.rules.specs.Offsets.{first-offsets}
 use Rattle.rules.specs.Operations.{read-tables}
@@ -22,6 +22,10 @@ pub record TimetableBehind (bytes : List ℕ) (ts : Set) (first : Offsets) (τ :
   pub read : read-tables bytes ≡ gives (record { set = ts; tables = tables })
   pub judged : judge-tables ts tables ≡ gives τ
   pub offsets : first ≡ first-offsets ts tables
+
+-- the bytes of the longest image of a valid timetable: TS, 16 tasks, 4,096 entries, EN; 28,971
+abbrev pub longest-image : ℕ
+longest-image = head-length-of (limits .tasks) + limits .jobs * size SL + size EN
 
 -- the bytes of entries
 abbrev pub entries-bytes : List Entry → List ℕ

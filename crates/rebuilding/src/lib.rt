@@ -1,6 +1,8 @@
 // Rebuilding: the timetable image of a table image. The image is accepted first; a second replay writes the entries.
 use images::END_SIZE;
 use images::ENTRY_SIZE;
+use images::HEAD_SIZE;
+use images::TASK_SIZE;
 use images::head_count;
 use images::head_length;
 use rules::MakeAnswer;
@@ -17,8 +19,11 @@ ghost use Rattle.rules.specs.Operations.{Rebuilds};
 ghost use Rattle.sets.specs.Kept.{tasks-in, Keeps};
 ghost use Rattle.rebuilding.specs.Rebuilt.{TimetableBehind, entries-put, CanPut};
 
+// The bytes of the longest timetable image: TS, 16 tasks, 4,096 entries, EN.
+pub const LONGEST: usize = HEAD_SIZE + 16 * TASK_SIZE + 4096 * ENTRY_SIZE + END_SIZE;
+
 // The entries of the rebuilt timetable, one behind the other behind the tasks.
-fn put_entries(image: &[u8], kept: &[[u32; 16]; 6], first: Offsets, out: &mut [u8])
+pub fn put_entries(image: &[u8], kept: &[[u32; 16]; 6], first: Offsets, out: &mut [u8])
     requires { ⌜ ((ts : Set) × CanPut ts (now image) (now kept) first (now out)) ⌝ }
     ensures { λ _. ⌜ ((ts : Set) (τ : List book-entry.Entry) → Keeps ts (now (kept .entry)) → TimetableBehind (now (image .entry)) ts first τ →
         now (out .exit) ≡ entries-put (now (out .entry)) (tasks-in (now (kept .entry))) τ) ⌝ }

@@ -3,7 +3,8 @@ use mathlib.Core.Path.{_≡_, refl, sym, _∙_, ap}
 use mathlib.Core.List.{List, [], _∷_}
 use Prim.Native.Nat.{ℕ, zero, suc, _<_}
 use native.Mathlib.Omega.{arith}
-use lib.ListN.{length, take}
+use lib.ListN.{length, take, length-take}
+use lib.Seq.{getD-take, take-take}
 use borrow.Author.Tests.{eq-eqb, ne-eqb}
 use Rattle.rules.specs.declared.Entry.{Entry}
 use Rattle.rules.specs.Timetable.{entry-at, count, job-at}
@@ -49,3 +50,25 @@ one-entry (e ∷ τ) (suc j) (suc k) l m t n =
     ap suc (one-entry τ j k (omega arith) (omega arith) t
     (by-eq (e .task) i (λ p. omega (arith, count-first e (take j τ) i p, count-first e (take k τ) i′ (p ∙ t)))
     (λ d. omega (arith, count-rest e (take j τ) i d, count-rest e (take k τ) i′ (λ p. d (p ∙ sym t))))))
+
+-- the first entries of a timetable have its jobs
+taken-job : (τ : List Entry) (j k : ℕ) → k < j → (entry-at (take j τ) k ≡ entry-at τ k) × (job-at (take j τ) k ≡ job-at τ k)
+taken-job τ j k l =
+    let e : entry-at (take j τ) k ≡ entry-at τ k = getD-take j τ k _ l in
+    (e, rw (e, take-take k j τ (omega arith)))
+
+-- an earlier entry's job is among those that have started
+pub earlier-job : (τ : List Entry) (j k i : ℕ) → k < j → k < length τ → entry-at τ k .task ≡ i → job-at τ k < count i (take j τ)
+earlier-job τ j k i l m t =
+    let e = taken-job τ j k l in
+    let b = job-below (take j τ) i k (omega (arith, length-take j τ)) (ap (λ (d : Entry). d .task) (e .0) ∙ t) in
+    omega (arith, e .1)
+
+-- and each of those is an earlier entry's
+pub started-job : {A : Type 0} (τ : List Entry) (j i k : ℕ) → k < count i (take j τ) →
+    ((m : ℕ) → m < j → m < length τ → entry-at τ m .task ≡ i → job-at τ m ≡ k → A) → A
+started-job τ j i k l go =
+    let a = appearance (take j τ) i k l in
+    let m : a .0 < j = omega (arith, a .1, length-take j τ) in
+    let e = taken-job τ j (a .0) m in
+    go (a .0) m (omega (arith, a .1, length-take j τ)) (sym (ap (λ (d : Entry). d .task) (e .0)) ∙ a .2) (sym (e .1) ∙ a .3)

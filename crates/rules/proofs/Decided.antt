@@ -33,7 +33,7 @@ use Rattle.rules.proofs.NextTurns.{shown-choice, idle-now-some, lent-in
 use Rattle.rules.proofs.PriorityLaws.{left-not-all, least-below, due-in-cycle}
 
 -- where all jobs have started, the least release is the end of the cycle
-all-started-least : (h : ℕ) (ts : List Task) (x : List ℕ) → all-started h ts x ≡ true → least-release h ts x ≡ h
+pub all-started-least : (h : ℕ) (ts : List Task) (x : List ℕ) → all-started h ts x ≡ true → least-release h ts x ≡ h
 all-started-least h [] x e = refl
 all-started-least h (t ∷ ts) x e =
     by-bool (ltb (head₀ x) (jobs h t)) (λ b. differ (sym e ∙ rw (b, all-started)))

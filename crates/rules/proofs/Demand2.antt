@@ -138,7 +138,7 @@ module _ (bytes : List ℕ) (b : Bytes bytes) where
       )))
 
   -- bytes from which a timetable is rebuilt are a table image
-  rebuilt-of : (i : Timed) → rebuilt bytes ≡ gives i → (ts : Set) × (τ : List Entry) × TableImage bytes ts τ
+  pub rebuilt-of : (i : Timed) → rebuilt bytes ≡ gives i → (ts : Set) × (τ : List Entry) × TableImage bytes ts τ
   rebuilt-of i e =
       then-gives (read-tables bytes) rebuild-from i e
       (λ j r d. then-gives (judge-tables (j .set) (j .tables)) _ i d

@@ -126,7 +126,7 @@ parsed {kind} (goes {s = s} {bytes = bytes} {m = m} w a f) l e h =
     }
 
 -- EN's layout ends behind EN
-last-ended : {kind : ℕ} {s : Place} {m : Mark} {v : List ℕ} {l : Layout} → After kind s m v (ends (gives l)) → l .ended ≡ s .offset + size m
+pub last-ended : {kind : ℕ} {s : Place} {m : Mark} {v : List ℕ} {l : Layout} → After kind s m v (ends (gives l)) → l .ended ≡ s .offset + size m
 last-ended (past-end e) = refl
 
 -- the layout says where the records end

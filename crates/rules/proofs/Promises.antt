@@ -7,6 +7,7 @@ use mathlib.Core.List.{List, [], _∷_, _++_, map}
 use mathlib.Core.Option.{none, some}
 use Prim.Native.Nat.{ℕ, suc, _+_, _*_, _/_, _%_, _≤_, _<_}
 use native.Mathlib.Omega.{arith}
+use lib.IntN.{ℤ}
 use lib.ListN.{length, take, drop}
 use Rattle.fields.specs.Number.{Bytes}
 use Rattle.rules.specs.declared.TaskSet.{TaskSet}
@@ -45,6 +46,8 @@ use Rattle.rules.specs.GoingOn.{DecidesAt, going-tests, start-refusal, L
 use Rattle.rules.specs.SlotsAbove.{SameAbove, SameBelow}
 use Rattle.rules.specs.StandingOffsets.{idles-since, inversions-since, OffsetsStand, StateOffsets}
 use Rattle.rules.specs.Promised.{HasTables, TimetableImage, TableImage, RefusesTimetableImage, RefusesTableImage, TheByte, BothImages, RefusesDeriving, RefusesRebuilding}
+use Rattle.rules.specs.Axis.{measured}
+use Rattle.rules.specs.AxisRules.{AxisFigures, FiguresOfImage}
 use Rattle.rules.specs.Worked.{worked, worked-out, P2-bytes}
 use Rattle.rules.proofs.Cases.{by-option, clash}
 use Rattle.rules.proofs.GoodSets.{good-set, set-good, good-rules, memory-order}
@@ -70,6 +73,7 @@ use Rattle.rules.proofs.BeginOrder as beginning
 use Rattle.rules.proofs.SlotsAbove as above
 use Rattle.rules.proofs.Demand3 as demand3
 use Rattle.rules.proofs.StandingOffsets as standing
+use Rattle.rules.proofs.AxisFigures as axis
 use Rattle.rules.proofs.WorkedCases as cases
 
 -- IMAGES AND VALUES correspond one to one: exactly what can be written is read, with the values that were written
@@ -439,7 +443,17 @@ next-start-turns bytes ts turns a l =
     enough-turns (setting ts) (lent bytes ts) (lent-in-range bytes ts) (waits-later ts (hyperperiod ts)) (omega arith) turns
     (suc (hyperperiod ts)) a (omega arith) (omega arith) (omega arith) (omega arith)
 
--- P1 TO P12, and document 000's figure 1, in a single table
+-- R-4: the image at the front is measured exactly when some valid timetable has its tables, and the figures are that timetable's, by document 02's words
+
+pub measured-images : (bytes : List ℕ) → Bytes bytes → (figures : List ℤ) → (measured bytes ≡ gives figures) ↔ FiguresOfImage bytes figures
+measured-images = axis.measured-images
+
+-- R-4: a timetable has one list of figures
+
+pub only-one-axis : {ts : Set} {h : ℕ} {τ : List Entry} {x y : List ℤ} → AxisFigures ts h τ x → AxisFigures ts h τ y → x ≡ y
+only-one-axis = axis.one-axis
+
+-- P1 TO P12, their figures, document 000's figure 1 and source document 001's example, in a single table
 
 pub worked-cases : map worked-out worked ≡ worked
 worked-cases = cases.all-worked

@@ -14,6 +14,12 @@ pub mod Framing
 pub mod Located
 pub mod Operations
 pub mod Intake
+pub mod Several
+pub mod Ticks
+pub mod Lateness
+pub mod Intervals
+pub mod IntervalRules
+pub mod Axis
 pub mod Offsets
 pub mod Dispatcher
 pub mod Calls
@@ -21,4 +27,5 @@ pub mod GoingOn
 pub mod SlotsAbove
 pub mod StandingOffsets
 pub mod Promised
+pub mod AxisRules
 pub mod Worked

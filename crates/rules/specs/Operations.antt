@@ -57,8 +57,8 @@ check-timetable bytes = check-answer bytes (derived bytes)
 unfoldable pub check-tables : List ℕ → CheckAnswer
 check-tables bytes = check-answer bytes (rebuilt bytes)
 
--- a result into an output of so many bytes: last, 20
-abbrev pub into : ℕ → List ℕ → Judged (List ℕ)
+-- a result into an output with room for so many bytes or numbers: last, 20
+abbrev pub into : {A : Type 0} → ℕ → List A → Judged (List A)
 into room result = or-else (unless (leb (length result) room) 20 0) (gives result)
 
 abbrev pub write-tables : ℕ → Tabled → Judged (List ℕ)
@@ -79,7 +79,7 @@ abbrev pub make-answer : List ℕ → Judged (List ℕ) → MakeAnswer
 make-answer bytes (gives result) = make-case.Made (length result)
 make-answer bytes (refuses r) = make-case.Refused (located bytes r)
 
-abbrev pub output-after : Judged (List ℕ) → List ℕ → List ℕ
+abbrev pub output-after : {A : Type 0} → Judged (List A) → List A → List A
 output-after (gives result) old = result ++ drop (length result) old
 output-after (refuses r) old = old
 

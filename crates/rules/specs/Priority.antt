@@ -7,7 +7,7 @@ use lib.Dec.{ltb, leb}
 use lib.ListN.{length}
 use Rattle.fields.specs.Body.{head₀, tail₀}
 use Rattle.rules.specs.declared.Task.{Task}
-use Rattle.rules.specs.Tasks.{Set, both, task, release, due, jobs, hyperperiod}
+use Rattle.rules.specs.Tasks.{Set, both, task, release, due, jobs, taken, hyperperiod}
 use Rattle.rules.specs.Timetable.{pick}
 use Rattle.rules.specs.Setting.{Setting, Act, run, lowest}
 
@@ -78,7 +78,7 @@ module _ (ts : Set) (h : ℕ) where
     all-started = all-started h (ts .tasks);
     start-job = start-job;
     least-release = least-release h (ts .tasks);
-    free-after = λ i s. s + task ts i .time;
+    free-after = λ i s. s + taken ts i;
     breaks = entry-breaks;
     breaks-in-replay = λ x f i s. late (entry-breaks x f i s);
     baseline = by-priority;

@@ -12,6 +12,8 @@ use Rattle.rules.specs.declared.CheckAnswer.{CheckAnswer}
 use Rattle.rules.specs.declared.CheckAnswer.the-variants as check-case
 use Rattle.rules.specs.declared.MakeAnswer.{MakeAnswer}
 use Rattle.rules.specs.declared.MakeAnswer.the-variants as make-case
+use Rattle.rules.specs.declared.AxisAnswer.{AxisAnswer}
+use Rattle.rules.specs.declared.AxisAnswer.the-variants as axis-case
 use Rattle.rules.specs.declared.Intake.{Intake}
 use Rattle.rules.specs.declared.Intake.the-variants as intake-case
 use Rattle.rules.specs.declared.StartAnswer.{StartAnswer}
@@ -106,6 +108,11 @@ make-tells (make-case.Refused r) = tells-refusal r
 abbrev pub take-tells : Intake → Told
 take-tells (intake-case.Open count) = tells (count ∷ [])
 take-tells intake-case.Shut = tells-refusal (of-no-image (refusal 20 0))
+
+-- measuring an axis tells how many figures it has and how many bytes its image
+abbrev pub axis-tells : AxisAnswer → Told
+axis-tells (axis-case.Measured a) = tells (a .figures ∷ a .used ∷ [])
+axis-tells (axis-case.Refused r) = tells-refusal r
 
 -- the dispatcher tells task, job, cycle and absolute time
 abbrev pub start-tells : StartAnswer → Told

@@ -52,6 +52,10 @@ release t k = t .offset + k * t .period
 abbrev pub due : Task → ℕ → ℕ
 due t k = release t k + t .deadline
 
+-- the ticks for which a job of task i takes the processor: its declared time
+abbrev pub taken : Set → ℕ → ℕ
+taken ts i = task ts i .time
+
 -- a task has H/T jobs a cycle
 abbrev pub jobs : ℕ → Task → ℕ
 jobs h t = h / t .period

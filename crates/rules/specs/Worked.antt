@@ -1,6 +1,8 @@
--- The worked cases: document 01, "A set to work by hand", with the byte offsets of document 02, R-2, and document 000's figure 1, in a single table. Assumes nothing.
-use mathlib.Core.List.{List, [], _∷_}
+-- The worked cases: document 01, "A set to work by hand", with the byte offsets of document 02, R-2, and the figures of R-4, document 000's figure 1 and
+-- source document 001's example, in a single table. Assumes nothing.
+use mathlib.Core.List.{List, [], _∷_, _++_}
 use Prim.Native.Nat.{ℕ}
+use lib.IntN.{ℤ, pos, negℤ}
 use lib.ListN.{length, take}
 use Rattle.rules.specs.declared.Layout.{Layout}
 use Rattle.rules.specs.declared.Task.{Task}
@@ -8,12 +10,13 @@ use Rattle.rules.specs.declared.Entry.{Entry}
 use Rattle.rules.specs.declared.Idle.{Idle}
 use Rattle.rules.specs.declared.Inversion.{Inversion}
 use Rattle.rules.specs.declared.Figures.{Figures}
-use Rattle.rules.specs.Refusals.{Judged, gives, refuses, Told, tells, make-tells}
+use Rattle.rules.specs.Refusals.{Judged, gives, refuses, Told, tells, make-tells, axis-tells}
 use Rattle.rules.specs.Tasks.{Set, set-with, figures}
 use Rattle.rules.specs.Setting.{Tables}
 use Rattle.rules.specs.Image.{timetable-image, table-image}
 use Rattle.rules.specs.Framing.{frame, set-in}
 use Rattle.rules.specs.Operations.{derived-image, rebuilt-image, make-answer}
+use Rattle.rules.specs.Axis.{most-figures, front, measured-into, axis-answer}
 
 -- a task, an entry, and the two kinds of records, as the document writes them
 abbrev pub TK : ℕ → ℕ → ℕ → ℕ → Task
@@ -77,26 +80,50 @@ figure-1-starts = SL 0 0 ∷ SL 1 3 ∷ SL 0 10 ∷ SL 1 13 ∷ SL 2 19 ∷ SL 0
 abbrev pub figure-1-tables : Tables
 figure-1-tables = tables-with (ID 9 1 ∷ []) (PV 1 2 6 ∷ [])
 
--- what is asked of an image: to derive its tables, or to rebuild its timetable
+-- the set of source document 001's figure 2, part A, whose fourth interval is empty
+abbrev pub figure-2 : Set
+figure-2 = set-with (TK 0 1 16 5 ∷ TK 0 3 16 7 ∷ TK 7 2 16 4 ∷ TK 13 1 16 3 ∷ [])
+
+-- one task whose only interval has a stretch without jobs before it and one behind it
+abbrev pub one-interval : Set
+one-interval = set-with (TK 2 1 10 3 ∷ [])
+
+-- a number below 0
+abbrev minus : ℕ → ℤ
+minus n = negℤ (pos n)
+
+-- the figures of P1 and P2: busy, forced idle, other idle; the lateness of each task; the capacity of each interval
+abbrev pub P1-axis : List ℤ
+P1-axis = pos 14 ∷ pos 0 ∷ pos 6 ∷ pos 0 ∷ minus 7 ∷ minus 11 ∷ pos 4 ∷ pos 2 ∷ pos 0 ∷ minus 4 ∷ []
+
+abbrev pub P2-axis : List ℤ
+P2-axis = pos 14 ∷ pos 2 ∷ pos 4 ∷ pos 0 ∷ minus 1 ∷ minus 13 ∷ pos 4 ∷ pos 2 ∷ pos 0 ∷ minus 4 ∷ []
+
+-- what is asked of an image: to derive its tables, to rebuild its timetable, or to measure its axis
 pub data Asked : Type 0 where
   to-derive : List ℕ → Asked
   to-rebuild : List ℕ → Asked
+  to-measure : List ℕ → Asked
 
--- a worked case: what is asked; what the answer tells; the result's bytes; the figures of the image's set
+-- a worked case: what is asked; what the answer tells; the result's bytes; the axis's figures; the figures of the image's set
 pub record Case : Type 0 where
   pub asked : Asked
   pub answer : Told
   pub result : List ℕ
+  pub axis : List ℤ
   pub set : Figures
 
--- a case with a result, and one that is refused
+-- a case with a result, one with an axis, whose image has so many bytes, and one that is refused
 abbrev makes : Asked → List ℕ → Figures → Case
-makes asked result set = record { asked = asked; answer = tells (length result ∷ []); result = result; set = set }
+makes asked result set = record { asked = asked; answer = tells (length result ∷ []); result = result; axis = []; set = set }
+
+abbrev measures : List ℕ → ℕ → List ℤ → Figures → Case
+measures bytes used axis set = record { asked = to-measure bytes; answer = tells (length axis ∷ used ∷ []); result = []; axis = axis; set = set }
 
 -- with its number, its place and its byte offset
 abbrev refuses-with : Asked → ℕ → ℕ → ℕ → Figures → Case
 refuses-with asked number place offset set =
-    record { asked = asked; answer = record { number = number; place = place; offset = offset; values = [] }; result = []; set = set }
+    record { asked = asked; answer = record { number = number; place = place; offset = offset; values = [] }; result = []; axis = []; set = set }
 
 -- the figures of the set to work by hand, and of no set
 abbrev hand-figures : Figures
@@ -146,21 +173,37 @@ worked =
     -- document 000's figure 1
     ∷ makes (to-derive (timetable-image figure-1 figure-1-starts)) (table-image figure-1 figure-1-tables) (record { hyperperiod = 60; jobs = 12 })
     ∷ makes (to-rebuild (table-image figure-1 figure-1-tables)) (timetable-image figure-1 figure-1-starts) (record { hyperperiod = 60; jobs = 12 })
+    -- P1's axis; P2's, also with the next image behind it; no bytes
+    ∷ measures (without-records hand) 65 P1-axis hand-figures
+    ∷ measures P2-bytes 91 P2-axis hand-figures
+    ∷ measures (P2-bytes ++ without-records hand) 91 P2-axis hand-figures
+    ∷ refuses-with (to-measure []) 1 0 0 no-figures
+    -- source document 001's figure 2, and the task with one interval
+    ∷ measures (without-records figure-2) 83
+    (pos 7 ∷ pos 0 ∷ pos 9 ∷ minus 4 ∷ minus 3 ∷ minus 2 ∷ minus 2 ∷ pos 3 ∷ minus 1 ∷ pos 2 ∷ pos 2 ∷ pos 2 ∷ [])
+    (record { hyperperiod = 16; jobs = 4 })
+    ∷ measures (without-records one-interval) 29 (pos 1 ∷ pos 0 ∷ pos 9 ∷ minus 2 ∷ pos 2 ∷ pos 2 ∷ pos 5 ∷ []) (record { hyperperiod = 10; jobs = 1 })
     ∷ []
 
--- the image
-abbrev image-in : Asked → List ℕ
-image-in (to-derive bytes) = bytes
-image-in (to-rebuild bytes) = bytes
-
 -- what the rule book answers, with room enough for any result
-abbrev made : Asked → Judged (List ℕ)
-made (to-derive bytes) = derived-image 65536 bytes
-made (to-rebuild bytes) = rebuilt-image 65536 bytes
+abbrev told : Asked → Told
+told (to-derive bytes) = make-tells (make-answer bytes (derived-image 65536 bytes))
+told (to-rebuild bytes) = make-tells (make-answer bytes (rebuilt-image 65536 bytes))
+told (to-measure bytes) = axis-tells (axis-answer (front bytes) (measured-into most-figures bytes))
 
-abbrev bytes-of : Judged (List ℕ) → List ℕ
-bytes-of (gives bytes) = bytes
-bytes-of (refuses r) = []
+abbrev given : {A : Type 0} → Judged (List A) → List A
+given (gives result) = result
+given (refuses r) = []
+
+abbrev bytes-of : Asked → List ℕ
+bytes-of (to-derive bytes) = given (derived-image 65536 bytes)
+bytes-of (to-rebuild bytes) = given (rebuilt-image 65536 bytes)
+bytes-of (to-measure bytes) = []
+
+abbrev axis-of : Asked → List ℤ
+axis-of (to-derive bytes) = []
+axis-of (to-rebuild bytes) = []
+axis-of (to-measure bytes) = given (measured-into most-figures bytes)
 
 abbrev figures-in : List ℕ → Judged Layout → Figures
 figures-in bytes (gives l) = figures (set-in l bytes)
@@ -169,12 +212,14 @@ figures-in bytes (refuses r) = no-figures
 abbrev figures-of : Asked → Figures
 figures-of (to-derive bytes) = figures-in bytes (frame 1 bytes)
 figures-of (to-rebuild bytes) = figures-in bytes (frame 2 bytes)
+figures-of (to-measure bytes) = figures-in (front bytes) (frame 2 (front bytes))
 
 -- the case as the rule book has it
 abbrev pub worked-out : Case → Case
 worked-out c = record {
   asked = c .asked;
-  answer = make-tells (make-answer (image-in (c .asked)) (made (c .asked)));
-  result = bytes-of (made (c .asked));
+  answer = told (c .asked);
+  result = bytes-of (c .asked);
+  axis = axis-of (c .asked);
   set = figures-of (c .asked);
 }

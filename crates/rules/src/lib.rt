@@ -123,6 +123,18 @@ pub enum MakeAnswer {
     Refused(Located),
 }
 
+// What is told of an axis: how many figures it has, and how many bytes its image.
+pub struct Axis {
+    pub figures: usize,
+    pub used: usize,
+}
+
+// The figures of the image at the front.
+pub enum AxisAnswer {
+    Measured(Axis),
+    Refused(Located),
+}
+
 // An intake of fragments: shut, or open with so many bytes taken.
 pub enum Intake {
     Shut,

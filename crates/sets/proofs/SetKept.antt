@@ -1,10 +1,12 @@
--- What is kept of a good set, as it is read from its rows: what stands in a task's slots, and that no sum of it is large. Assumes nothing.
-use mathlib.Core.Path.{_≡_, sym, _∙_}
+-- What is kept of a good set, as it is read from its rows: what stands in a task's slots, that no sum of it is large, and that it tells the set.
+-- Assumes nothing.
+use mathlib.Core.Path.{_≡_, sym, _∙_, ap}
 use Prim.Native.Nat.{ℕ, _+_, _-_, _≤_, _<_}
 use native.Mathlib.Omega.{arith}
 use native.Mathlib.Nat.{le-of-dvd}
 use lib.ListN.{getD}
-use Rattle.rules.specs.Tasks.{Set, largest-number, task, jobs, hyperperiod, GoodSet}
+use lib.Seq.{ext-getD}
+use Rattle.rules.specs.Tasks.{Set, set-with, no-task, largest-number, task, jobs, hyperperiod, GoodSet}
 use Rattle.rules.proofs.Arrays.{slot-element}
 use Rattle.rules.proofs.GoodSets.{good-set, set-good, good-rules, good-positive}
 use Rattle.sets.specs.Kept.{Rows, tasks-in, hyperperiod-in, jobs-in, slack-in, times-in, periods-in, first-in, Keeps}
@@ -45,3 +47,17 @@ module _ {ts : Set} {kept : Rows} (keeps : Keeps ts kept) where
     -- the end of the cycle and D − C together fit 32 bits
     pub slack-short : hyperperiod-in kept + getD (slack-in kept) i 0 ≤ largest-number
     slack-short = omega (arith, slack-kept, period-short, good-rules (keeps .good) i .within, keeps .good .short)
+
+-- what is kept of two sets is not the same
+pub one-set : {ts us : Set} {kept : Rows} → Keeps ts kept → Keeps us kept → ts ≡ us
+one-set {ts} {us} {kept} a b =
+    ap set-with (ext-getD no-task (ts .tasks) (us .tasks) (sym (a .n-tasks) ∙ b .n-tasks) (λ i l. one-task i (omega (arith, a .n-tasks))))
+  where
+    one-task : (i : ℕ) → i < tasks-in kept → task ts i ≡ task us i
+    one-task i l =
+        let offset = sym (first-kept a i l) ∙ first-kept b i l in
+        let time = sym (time-kept a i l) ∙ time-kept b i l in
+        let period = sym (period-kept a i l) ∙ period-kept b i l in
+        let deadline : task ts i .deadline ≡ task us i .deadline =
+        omega (arith, slack-kept a i l, slack-kept b i l, good-rules (a .good) i .fits, good-rules (b .good) i .fits) in
+        λ k. record { offset = offset k; time = time k; period = period k; deadline = deadline k }

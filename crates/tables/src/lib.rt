@@ -114,7 +114,7 @@ fn judge_records(image: &[u8], set: TaskSet, kept: &[[u32; 16]; 6], l: Layout) -
 pub fn judge(image: &[u8], kept: &mut [[u32; 16]; 6]) -> Tables
     ensures { λ t. ⌜ JudgedAs (now (image .entry)) t (now (kept .exit)) ⌝ }
 {
-    match framing::frame(image) {
+    match framing::frame(image, true) {
         FrameAnswer::Refused(refusal) => refused(refusal),
         FrameAnswer::Framed(l) => {
             let set = framing::read_set(image, l.tasks);

@@ -36,7 +36,7 @@ entries-length bytes at zero = refl
 entries-length bytes at (suc many) = ap suc (entries-length bytes (at + size SL) many)
 
 -- entries that lie in an image are those of the SL records there
-entries-are : (bytes : List ℕ) (at many : ℕ) → at + many * size SL ≤ length bytes →
+pub entries-are : (bytes : List ℕ) (at many : ℕ) → at + many * size SL ≤ length bytes →
     entries-at bytes at many ≡ map to-entry (read SL many (drop at bytes))
 unfolding entries-at
 entries-are bytes at zero h = refl

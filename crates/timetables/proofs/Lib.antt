@@ -6,6 +6,7 @@ pub mod Instants
 pub mod EntriesRead
 pub mod OwnInversions
 pub mod Turns
+pub mod ValidTurns
 pub mod EntriesJudged
 pub mod Counting
 pub mod Walking

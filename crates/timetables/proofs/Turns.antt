@@ -73,7 +73,7 @@ module _ {ts : Set} {kept : Rows} {releases next : List ℕ} {at j : ℕ} (w : A
   good = kept-good (w .keeps)
 
   -- a task's slot holds the release of its next job
-  its-release : (i : ℕ) → i < tasks-in kept → getD releases i 0 ≡ release (task ts i) (slot next i)
+  pub its-release : (i : ℕ) → i < tasks-in kept → getD releases i 0 ≡ release (task ts i) (slot next i)
   its-release i l =
       sym (getD-take (tasks-in kept) releases i 0 l)
       ∙ ap (λ (rs : List ℕ). getD rs i 0) (w .releases-are)
@@ -136,7 +136,7 @@ module _ {ts : Set} {kept : Rows} {releases next : List ℕ} {at j : ℕ} (w : A
         }
 
     -- the instant of decision
-    turn-instant : instant-of (tasks-in kept) releases f ≡ instant G next f
+    pub turn-instant : instant-of (tasks-in kept) releases f ≡ instant G next f
     turn-instant = rw (w .releases-are)
         (instant-is ts h next (good-releases good) f (omega (arith, good .short)) (some-left ts h e [] keeps (good-rules good (e .task))))
 

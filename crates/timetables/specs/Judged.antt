@@ -41,6 +41,11 @@ pub record EntriesStand (ts : Set) (bytes : List ℕ) (kept : Rows) (listed : �
   pub keeps : Keeps ts kept
   pub inside : head-length ts + listed * size SL ≤ length bytes
 
+-- and these entries are those of a valid timetable
+pub record EntriesValid (ts : Set) (bytes : List ℕ) (kept : Rows) (listed : ℕ) : Type 0 where
+  pub stand : EntriesStand ts bytes kept listed
+  pub no-fault : fault-behind bytes ts listed ≡ none
+
 -- a walk over entries up to the one that breaks a rule, or to where no SL record stands, with what is counted where it was asked for
 pub record Walked (ts : Set) (bytes : List ℕ) (count : Bool) (w : Walk) : Type 0 where
   pub run : RunOf bytes (head-length ts) SL (length bytes) (w .entries)

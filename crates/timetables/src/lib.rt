@@ -6,6 +6,7 @@ use images::ENTRY_SIZE;
 use images::SL;
 use rules::CheckAnswer;
 use rules::Entry;
+use rules::LARGEST;
 use rules::Located;
 use rules::NO_REFUSAL;
 use rules::NO_SET;
@@ -70,6 +71,18 @@ fn entry_breaks(kept: &[[u32; 16]; 6], release: &[u32; 16], free: u32, e: Entry)
         free,
         e.start,
     )
+}
+
+// An instant that no release comes to: there is no next job.
+const NEVER: u32 = LARGEST;
+
+// The instant from which a job is waiting for the processor: the larger of the free instant and the least release among jobs not yet started.
+pub fn instant(n: usize, release: &[u32; 16], free: u32) -> u32
+    requires few { ⌜ n ≤ 16 ⌝ }
+    requires slots { ⌜ length (now release) ≡ 16 ⌝ }
+    ensures { λ r. ⌜ r ≡ instant-of n (now (release .entry)) free ⌝ }
+{
+    sets::later(free, sets::least(n, NEVER, release))
 }
 
 // Is one of n jobs released before an instant?
@@ -257,7 +270,7 @@ pub fn judge(image: &[u8], count: bool, kept: &mut [[u32; 16]; 6]) -> Timetable
         TasksAnswer::Framed(p) => {
             let set = framing::read_set(image, p.tasks);
             match sets::judge_set(set, kept) {
-                SetAnswer::Refused(fault) => match framing::frame_from(image, 1, p) {
+                SetAnswer::Refused(fault) => match framing::frame_from(image, 1, true, p) {
                     FrameAnswer::Refused(refusal) => refused(refusal),
                     FrameAnswer::Framed(_) => refused(framing::set_refused(fault)),
                 },
@@ -266,6 +279,7 @@ pub fn judge(image: &[u8], count: bool, kept: &mut [[u32; 16]; 6]) -> Timetable
                     match framing::frame_from(
                         image,
                         1,
+                        true,
                         framing::past(p, SL, w.entries, w.entries, 0),
                     ) {
                         FrameAnswer::Refused(refusal) => refused(refusal),

@@ -9,7 +9,7 @@ use Rattle.sets.specs.Kept.{tasks-in}
 use Rattle.timetables.specs.declared.Counts.{Counts}
 use Rattle.timetables.proofs.Turns.{at-first, GoodStart}
 use Rattle.deriving.specs.Putting.{PartsBegin, CanPut}
-use Rattle.deriving.proofs.ValidTurns.{entry-inside, entry-task, entry-good, few-started}
+use Rattle.timetables.proofs.ValidTurns.{entry-inside, entry-task, entry-good, few-started}
 use Rattle.deriving.proofs.Putting.{PutFrom, can-few, put-first, idle-room, inversion-room, put-next, put-all}
 use Rattle.deriving.proofs.put_irregularities.Statement.{statement}
 use Rattle.deriving.proofs.put_irregularities.Tie as tie

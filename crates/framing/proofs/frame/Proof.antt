@@ -78,7 +78,7 @@ frame-from-requires c κs =
     rw (c .past2 .ensures) (inversions-passed (p .0) (p .1) (p .2) _ _ (r .run2 .ensures))
 
 returns : tie.Need-returns
-returns c = tasks-refused _ _ _ (c .before .before .before .frame-tasks .ensures) _ (c .before .r .given .1)
+returns c = tasks-refused _ _ _ (c .before .before .before .frame-tasks .ensures) (c .before .before .before .before .before .args .whole) _ (c .before .r .given .1)
 
 returns-2 : tie.Need-returns-2
 returns-2 c = search needs

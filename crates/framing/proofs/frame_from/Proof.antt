@@ -4,15 +4,15 @@ use native.Mathlib.Omega.{arith}
 use borrow.Author.Needs.{needs}
 use lib.ListN.{length}
 use Rattle.framing.specs.Frames.{Steps, Reached}
-use Rattle.framing.proofs.StepLaws.{goes-further, reached, refused, followed, framed}
+use Rattle.framing.proofs.StepLaws.{goes-further, reached, refused, followed, framed, in-front}
 use Rattle.framing.proofs.frame_from.Statement.{statement}
 use Rattle.framing.proofs.frame_from.Tie as tie
 
 abbrev Inv-records : tie.InvT-records
-Inv-records image kind s₀ s = Reached kind image s
+Inv-records image kind whole s₀ s = Reached kind image s
 
 abbrev μ-records : tie.MeasureT-records
-μ-records image kind s₀ s = length image - s .offset
+μ-records image kind whole s₀ s = length image - s .offset
 
 records-holds : tie.Need-records-holds Inv-records μ-records
 records-holds c = c .before .pre
@@ -47,20 +47,28 @@ refusal-at-requires c κs = search needs
 returns : tie.Need-returns Inv-records μ-records
 returns c =
     let e = c .before .before .before in
-    refused _ _ _ _ (e .step-at .ensures) (e .before .records .inv) _ (c .before .r .given .1)
+    refused _ _ _ _ (e .step-at .ensures) (e .before .records .inv) (e .before .before .before .args .whole) _ (c .before .r .given .1)
 
 returns-2 : tie.Need-returns-2 Inv-records μ-records
 returns-2 c =
     let t = c .before in
-    let l = t .before .before .before in
+    let w = t .before .before in
+    let l = w .before .before in
     let e = l .before .before in
-    rw (c .refusal-at .ensures) (followed _ _ _ _ (e .step-at .ensures) (e .before .records .inv) _ (l .l .given .1) (t .if1 .taken))
+    rw (c .refusal-at .ensures) (followed _ _ _ _ (e .step-at .ensures) (e .before .records .inv) _ (l .l .given .1) (w .if1 .taken) (t .if2 .taken))
 
 returns-3 : tie.Need-returns-3 Inv-records μ-records
 returns-3 c =
-    let l = c .before .before .before in
+    let w = c .before .before in
+    let l = w .before .before in
     let e = l .before .before in
-    framed _ _ _ _ (e .step-at .ensures) (e .before .records .inv) _ (l .l .given .1) (c .if1 .left)
+    framed _ _ _ _ (e .step-at .ensures) (e .before .records .inv) _ (l .l .given .1) (w .if1 .taken) (c .if2 .left)
+
+returns-4 : tie.Need-returns-4 Inv-records μ-records
+returns-4 c =
+    let l = c .before .before in
+    let e = l .before .before in
+    in-front _ _ _ _ (e .step-at .ensures) (e .before .records .inv) _ (l .l .given .1) (c .if1 .left)
 
 pub frame-from-spec : {M : Type 1} → statement M
 frame-from-spec =
@@ -78,4 +86,5 @@ frame-from-spec =
     refusal-at-requires
     returns
     returns-2
-    returns-3)
+    returns-3
+    returns-4)

@@ -2,8 +2,8 @@
 use mathlib.Core.Path.{refl}
 use native.Mathlib.Omega.{arith}
 use borrow.Author.Needs.{needs}
-use Rattle.lines.specs.Text.{too-long}
-use Rattle.lines.proofs.TextLengths.{refused-short}
+use Rattle.text.specs.Text.{too-long}
+use Rattle.text.proofs.Lengths.{refused-short}
 use Rattle.lines.proofs.Promises.{judged-input, refused-input}
 use Rattle.lines.proofs.list.Statement.{statement}
 use Rattle.lines.proofs.list.Tie as tie

@@ -5,9 +5,11 @@ use borrow.Author.Needs.{needs}
 use lib.Seq.{length-take-le}
 use Rattle.fields.specs.Number.{Bytes}
 use Rattle.fields.proofs.Laws.{bytes-by-index}
-use Rattle.lines.specs.Text.{refused-text, listing}
+use Rattle.text.specs.Text.{refused-text}
+use Rattle.text.proofs.Lengths.{refused-short}
+use Rattle.lines.specs.Text.{listing}
 use Rattle.lines.specs.Lists.{Lists}
-use Rattle.lines.proofs.TextLengths.{refused-short, text-short}
+use Rattle.lines.proofs.TextLengths.{text-short}
 use Rattle.lines.proofs.Rebuilt.{RebuiltIn, refused-so, made-so}
 use Rattle.lines.proofs.list_rebuilt.Statement.{statement}
 use Rattle.lines.proofs.list_rebuilt.Tie as tie

@@ -1,8 +1,9 @@
 -- `lines::put_line` meets its contract: four numbers are put one behind the other. Assumes nothing.
 use mathlib.Core.List.{_++_}
 use borrow.Author.Needs.{needs}
-use Rattle.lines.specs.Text.{space, line-end, number-then, line}
-use Rattle.lines.proofs.TextPuts.{first-fits, second-fits, texts-put}
+use Rattle.text.specs.Text.{space, line-end, number-then}
+use Rattle.text.proofs.TextPuts.{first-fits, second-fits, texts-put}
+use Rattle.lines.specs.Text.{line}
 use Rattle.lines.proofs.put_line.Statement.{statement}
 use Rattle.lines.proofs.put_line.Tie as tie
 

@@ -1,7 +1,8 @@
 -- `lines::put_ok` meets its contract: the word is put, and the number behind it. Assumes nothing.
 use borrow.Author.Needs.{needs}
-use Rattle.lines.specs.Text.{line-end, number-then, ok-word, ok-line}
-use Rattle.lines.proofs.TextPuts.{first-fits, second-fits, texts-put}
+use Rattle.text.specs.Text.{line-end, number-then}
+use Rattle.text.proofs.TextPuts.{first-fits, second-fits, texts-put}
+use Rattle.lines.specs.Text.{ok-word, ok-line}
 use Rattle.lines.proofs.put_ok.Statement.{statement}
 use Rattle.lines.proofs.put_ok.Tie as tie
 

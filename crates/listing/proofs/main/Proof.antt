@@ -4,13 +4,13 @@ use Prim.Native.Nat.{_≤_}
 use borrow.Author.Needs.{needs}
 use lib.ListN.{length}
 use lib.Seq.{length-take-le}
-use Rattle.listing.proofs.Answers.{held-inside}
+use Rattle.standard.proofs.Answers.{held-inside}
 use Rattle.listing.proofs.main.Statement.{statement}
 use Rattle.listing.proofs.main.Tie as tie
 
 -- the bytes held are within the buffer
 held : (c : tie.After-n) → c .n .given .0 .0 ≤ length (c .before .before .before .read-input .last .0)
-held c = let read = c .before .before .before .read-input in held-inside (read .last .0) (c .n .given .1) (read .ensures)
+held c = let read = c .before .before .before .read-input in held-inside {at = 0} (read .last .0) (c .n .given .1) (read .ensures) .1
 
 slice-aggregate-read-input : tie.Need-slice-aggregate-read-input
 slice-aggregate-read-input c = search needs
