@@ -1,24 +1,15 @@
 -- Differences of naturals in signed numbers of 64 bits. Assumes nothing.
 use mathlib.Core.Path.{_≡_, ap}
-use Prim.Native.Nat.{ℕ, zero, suc, _+_, _-_, _^_, _≤_, _<_}
+use Prim.Native.Nat.{ℕ, _+_, _^_, _<_}
 use native.Mathlib.Omega.{arith}
 use mir.Syntax.{w64}
 use mir.Val.{SFits}
 use borrow.Author.Needs.{sfits-of}
-use borrow.Author.Tests.{lt-ltb, le-ltb}
 use lib.IntN.{pos, negsuc, _-ℤ_}
 use Rattle.rules.proofs.Cases.{by-le}
+use Rattle.rules.proofs.Signed.{minus-above, minus-below}
 
--- the difference of two naturals, by their order
-minus-above : (a b : ℕ) → b ≤ a → pos a -ℤ pos b ≡ pos (a - b)
-minus-above a zero l = ap pos (omega arith)
-minus-above a (suc b) l = rw (le-ltb a (suc b) l)
-
-minus-below : (a b : ℕ) → a < b → pos a -ℤ pos b ≡ negsuc (b - suc a)
-minus-below a zero l = absurd (omega arith)
-minus-below a (suc b) l = rw (lt-ltb a (suc b) l)
-
--- it is the same where both have grown by a number
+-- the difference of two naturals is the same where both have grown by a number
 pub minus-both : (a b c : ℕ) → pos (a + c) -ℤ pos (b + c) ≡ pos a -ℤ pos b
 minus-both a b c =
     by-le b a (λ l. rw (minus-above a b l, minus-above (a + c) (b + c) (omega arith)) (ap pos (omega arith)))
