@@ -125,7 +125,8 @@ module _ (ts : Set) (h : ℕ) where
     derived_from : {j : ℕ} {x : List ℕ} {f : ℕ} {σ : List Entry} → Before ts h τ j x f σ → ValidFrom (setting_of ts h) x f σ →
         ForcedIdles ts h τ j (forced_idles (setting_of ts h) x f σ)
     derived_from b (finished all) = no_entry (past_end ts h τ b)
-    derived_from b (entry ok valid) = gap_forced b (keeps_rules ts h _ _ _ _ ok) (derived_from (at_next ts h τ b) valid)
+    derived_from {j = j} b (entry ok valid) =
+        gap_forced b (keeps_rules ts h _ _ _ _ ok) (derived_from {j = suc j} (at_next ts h τ b) valid)
 
     module _ (valid : ValidFrom (setting_of ts h) [] 0 τ) where
       -- what is derived is forced

@@ -48,7 +48,7 @@ tasks_reached i o (suc d) n e = record {
 }
 
 -- so it holds behind every record
-after_reached : {kind : ℕ} {s t : Place} {m : Mark} {v : List ℕ} → Reached s → After kind s m v (goes_on t) → allowed kind s m ≡ true → Reached t
+after_reached : {kind : ℕ} {s : Place} {m : Mark} {v : List ℕ} {t : Place} → Reached s → After kind s m v (goes_on t) → allowed kind s m ≡ true → Reached t
 after_reached {kind} {s} {v = v} r (past_head h) a =
     let first-record = r.at_head (due_turn s.rank 0 (omega arith) (turn_of kind s TS a)) in
     tasks_reached (suc s.index) (s.offset + size TS) (slot v 2) (slot v 2) (omega arith)
@@ -152,7 +152,7 @@ module _ (kind : ℕ) (s : Place) (bytes : List ℕ) where
       first_then (all_pass (front_tests kind s bytes) front-passes) (λ _. own)
 
 -- a record that framing goes on behind passes all tests
-goes_order : {kind : ℕ} {s t : Place} {bytes : List ℕ} {m : Mark} → Allowed kind s bytes m → After kind s m (values m bytes) (goes_on t) →
+goes_order : {kind : ℕ} {s : Place} {bytes : List ℕ} {m : Mark} {t : Place} → Allowed kind s bytes m → After kind s m (values m bytes) (goes_on t) →
     First (head_tests kind s bytes ++ end_tests kind s bytes) none
 goes_order {kind} {s} {bytes = bytes} a (past_head h) =
     first_then (subst (First (head_tests kind s bytes)) h (head_order kind s bytes TS a refl)) (λ _. no_end kind s bytes TS a (omega arith))

@@ -57,7 +57,7 @@ pub by_after : (kind : ℕ) (s : Place) (m : Mark) (v : List ℕ) {x : Next} →
 by_after kind s m v e = subst (After kind s m v) e (after_is kind s m v)
 
 -- a record that framing goes on behind moves the index by one and the offset by its bytes
-pub moves : {kind : ℕ} {s t : Place} {m : Mark} {v : List ℕ} → After kind s m v (goes_on t) →
+pub moves : {kind : ℕ} {s : Place} {m : Mark} {v : List ℕ} {t : Place} → After kind s m v (goes_on t) →
     (t.index ≡ suc s.index) × (t.offset ≡ s.offset + size m)
 moves (past_head h) = (refl, refl)
 moves past_task = (refl, refl)
@@ -108,9 +108,9 @@ from_frames (unmarked {bytes = bytes} l e) (suc turns) h = rw (le-leb 2 (length 
 from_frames (cut_off {bytes = bytes} {m = m} l e c) (suc turns) h = rw (le-leb 2 (length bytes) l, e, lt-leb (size m) (length bytes) c, frame_from)
 from_frames (stops {bytes = bytes} {m = m} w a) (suc turns) h =
     rw (le-leb 2 (length bytes) (omega (arith, w.not_cut)), w.marked, le-leb (size m) (length bytes) w.not_cut, a, frame_from)
-from_frames (goes {bytes = bytes} {m = m} w a f) (suc turns) h =
+from_frames {kind = kind} {s = s} {bytes = bytes} {z = z} (goes {t = t} {m = m} w a f) (suc turns) h =
     rw (le-leb 2 (length bytes) (omega (arith, w.not_cut)), w.marked, le-leb (size m) (length bytes) w.not_cut, a, frame_from)
-    (from_frames f turns (omega (arith, w.not_cut, length-drop (size m) bytes)))
+    (from_frames {s = t} f turns (omega (arith, w.not_cut, length-drop (size m) bytes)))
 
 -- and the answer of framing up to EN
 pub framed : {kind : ℕ} {s : Place} {bytes : List ℕ} {z : Judged Layout} → Frames kind s bytes z → frame_records kind s bytes ≡ z

@@ -3,7 +3,7 @@ use mathlib.Core.Path.{◌≡◌, sym, ◌∙◌}
 use mathlib.Core.Logic.{◌↔◌}
 use mathlib.Core.Bool.{Bool, true, false}
 use mathlib.Core.List.{List, [], ◌∷◌, Memᴰ}
-use Prim.Native.Nat.{ℕ, ◌+◌, ◌≤◌, ◌<◌}
+use Prim.Native.Nat.{ℕ, suc, ◌+◌, ◌≤◌, ◌<◌}
 use native.Mathlib.Omega.{arith}
 use lib.Dec.{leb}
 use lib.ListN.{length}
@@ -104,9 +104,9 @@ module _ (ts : Set) (h : ℕ) where
     derived_from : {j : ℕ} {x : List ℕ} {f : ℕ} {σ : List Entry} → Before ts h τ j x f σ → ValidFrom (setting_of ts h) x f σ →
         (r : Inversion) → Memᴰ r (inversions (setting_of ts h) x σ) → IsInversion ts h τ r
     derived_from b (finished all) r m = absurd (mathlib.Core.List.Memᴰ.not-nil m)
-    derived_from b (entry {x = x} {e = e} {τ = σ} ok valid) r m =
+    derived_from {j = j} b (entry {x = x} {e = e} {τ = σ} ok valid) r m =
         let later : Memᴰ r (inversions (setting_of ts h) (start_job x e.task) σ) → IsInversion ts h τ r =
-        derived_from (at_next ts h τ b) valid r in
+        derived_from {j = suc j} (at_next ts h τ b) valid r in
         by_bool (runs (by_priority ts h x e.start) e.task) (λ n. later (rw n at m))
         (λ n. by_insert (inversion_of (setting_of ts h) x e) (inversions (setting_of ts h) (start_job x e.task) σ) (rw n at m)
         (λ q. rw q (start_inverts τ b (keeps_rules ts h _ _ _ _ ok) n)) later)
@@ -121,7 +121,7 @@ module _ (ts : Set) (h : ℕ) where
         by_eq v.j j
         (λ here. rw (inverted_not_run τ b keeps v here) (inserted (inversion_of (setting_of ts h) x e) rest (own_inversion τ b keeps v here)))
         (λ past. kept_unless (runs (by_priority ts h x e.start) e.task) (inversion_of (setting_of ts h) x e) rest
-        (inversion_from (at_next ts h τ b) valid r v (omega arith)))
+        (inversion_from {j = suc j} (at_next ts h τ b) valid r v (omega arith)))
 
   -- the inversions that are derived of a valid timetable are those of the document
   pub derived_inversions : (τ : List Entry) → ValidFrom (setting_of ts h) [] 0 τ → (r : Inversion) →

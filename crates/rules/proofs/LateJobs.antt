@@ -107,17 +107,19 @@ module _ (ts : Set) (p : List Inversion) (good : set_fault ts ≡ none) (pairs :
   late_refused_from (late_now {a = a} {t = t} {i = i} d l) (suc turns) k =
       turn_refuses G turns a.next a.free t a.unused p (next_instant ts h keep d.at_instant) (job_left ts h d.at_instant) i 17 (decided_next d)
       (ends_late ts h a.next t i l)
-  late_refused_from (after_idle q d l) (suc turns) k = let w = idle_turn q d k in w.1 ∙ late_refused_from l turns w.0
-  late_refused_from (after_start {t = t} {i = i} d n l) (suc turns) k =
-      let w = start_turn d n k in w.1 ∙ ap (start_before (record { task = i; start = t })) (late_refused_from l turns w.0)
+  late_refused_from {a = a} (after_idle {t = t} {r = r} {behind = behind} q d l) (suc turns) k =
+      let w = idle_turn q d k in w.1 ∙ late_refused_from {a = after_idling a t r behind} l turns w.0
+  late_refused_from {a = a} (after_start {t = t} {i = i} d n l) (suc turns) k =
+      let w = start_turn d n k in w.1 ∙ ap (start_before (record { task = i; start = t })) (late_refused_from {a = after_starting ts a t i} l turns w.0)
 
   -- where it comes to the end of the cycle, it gives its starts
   pub replays_given_from : {a : Replaying} {τ : List Entry} → Replays ts h p a τ → (turns : ℕ) → Reaches turns a → from turns a ≡ gives τ
   replays_given_from r zero k = absurd (omega arith)
   replays_given_from (Replays.ends {a = a} e) (suc turns) k = let o = all_have_started h ts.tasks a.next e in rw (o, replay_from)
-  replays_given_from (Replays.idles q d r) (suc turns) k = let w = idle_turn q d k in w.1 ∙ replays_given_from r turns w.0
-  replays_given_from (Replays.starts {t = t} {i = i} d n r) (suc turns) k =
-      let w = start_turn d n k in w.1 ∙ ap (start_before (record { task = i; start = t })) (replays_given_from r turns w.0)
+  replays_given_from {a = a} (Replays.idles {t = t} {r = first} {behind = behind} q d r) (suc turns) k =
+      let w = idle_turn q d k in w.1 ∙ replays_given_from {a = after_idling a t first behind} r turns w.0
+  replays_given_from {a = a} (Replays.starts {t = t} {i = i} d n r) (suc turns) k =
+      let w = start_turn d n k in w.1 ∙ ap (start_before (record { task = i; start = t })) (replays_given_from {a = after_starting ts a t i} r turns w.0)
 
   -- replay stands at the end, or it idles, starts a job, or comes to one that is too late
   by_rule : {A : Type 0} (a : Replaying) → (((i : ℕ) → i < length ts.tasks → jobs h (task ts i) ≤ slot a.next i) → A) →

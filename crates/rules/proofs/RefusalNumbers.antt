@@ -49,6 +49,7 @@ each_passes test (m ∷ ms) = both (test m) (each_passes test ms)
 
 -- and so does each of them
 listed_passes : (test : ℕ → Bool) {n : ℕ} (ms : List ℕ) → each_passes test ms ≡ true → Memᴰ n ms → test n ≡ true
+listed_passes test {n = n} [] e l = elim l [ ]
 listed_passes test (m ∷ ms) e (Memᴰ.head q) = rw q (both_true (test m) _ e).0
 listed_passes test (m ∷ ms) e (Memᴰ.tail l) = listed_passes test ms (both_true (test m) _ e).1 l
 

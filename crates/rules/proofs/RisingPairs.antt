@@ -31,6 +31,7 @@ inserted e (s ∷ p) q =
 
 -- and so are the records that were there
 pub kept : {r : Inversion} (e : Inversion) (p : List Inversion) → Memᴰ r p → Memᴰ r (insert e p)
+kept {r = r} e [] m = elim m [ ]
 kept e (s ∷ p) (mathlib.Core.List.Memᴰ.head q) =
     by_bool (at_most e.task e.job s.task s.job) (λ b. rw (b, insert) (mathlib.Core.List.Memᴰ.tail (mathlib.Core.List.Memᴰ.head q)))
     (λ b. rw (b, insert) (mathlib.Core.List.Memᴰ.head q))
@@ -83,6 +84,7 @@ rise_pairs (r ∷ p) rises = (at_most_zero r.task r.job, rise_after r p rises)
 
 -- a record of a table is not below the table's bound
 pub not_below : {r : Inversion} (a b : ℕ) (p : List Inversion) → Pairs a b p → Memᴰ r p → at_most a b r.task r.job ≡ true
+not_below {r = r} a b [] z m = elim m [ ]
 not_below a b (s ∷ p) z (mathlib.Core.List.Memᴰ.head q) = rw q z.0
 not_below {r} a b (s ∷ p) z (mathlib.Core.List.Memᴰ.tail m) =
     at_most_next a b s.task s.job r.task r.job z.0 (not_below s.task (suc s.job) p z.1 m)
@@ -115,6 +117,7 @@ same_records a b c d (r ∷ p) (s ∷ q) y z same =
 
 -- what every record of a table passes, one that it has passes
 pub member_passes : {r : Inversion} (passes : Inversion → Bool) (p : List Inversion) → Every passes p → Memᴰ r p → passes r ≡ true
+member_passes {r = r} passes [] z m = elim m [ ]
 member_passes passes (s ∷ p) z (mathlib.Core.List.Memᴰ.head q) = rw q z.0
 member_passes passes (s ∷ p) z (mathlib.Core.List.Memᴰ.tail m) = member_passes passes p z.1 m
 
@@ -128,6 +131,7 @@ delay_has (s ∷ p) i k d e =
 
 -- and of a rising table every record is the delay of its job
 pub has_delay : {r : Inversion} (a b : ℕ) (p : List Inversion) → Pairs a b p → Memᴰ r p → delay_of p r.task r.job ≡ some r.delay
+has_delay {r = r} a b [] z m = elim m [ ]
 has_delay {r} a b (s ∷ p) z (mathlib.Core.List.Memᴰ.head q) = delay_here s p r.task r.job (rw q) (rw q) ∙ rw q
 has_delay {r} a b (s ∷ p) z (mathlib.Core.List.Memᴰ.tail m) =
     delay_there s p r.task r.job (above_ne s.task s.job r.task r.job (not_below s.task (suc s.job) p z.1 m))

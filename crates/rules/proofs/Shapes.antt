@@ -86,7 +86,7 @@ listed_mark of_tables (inl e) i = differ (sym (rw e at i))
 listed_mark of_tables (inr e) i = sym e
 
 -- framing goes on behind no other records
-follows : {kind : ℕ} {m : Mark} → Kind kind m → {s t : Place} {k : Mark} {v : List ℕ} → After kind s k v (goes_on t) → allowed kind s k ≡ true →
+follows : {kind : ℕ} {m : Mark} → Kind kind m → {s : Place} {k : Mark} {v : List ℕ} {t : Place} → After kind s k v (goes_on t) → allowed kind s k ≡ true →
     Follows kind m s k v t
 follows {kind} K {s = s} (past_head h) a = head (due_turn s.rank 0 (omega arith) (turn_of kind s TS a)) h
 follows {kind} K {s = s} past_task a = task (due_turn s.rank 1 (omega arith) (turn_of kind s TK a))

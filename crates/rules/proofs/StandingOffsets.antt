@@ -180,7 +180,7 @@ module _ (ts : Set) (good : set_fault ts ≡ none) where
       )
   forced_since (d ∷ σ) e rest (entry {x = x} {f = f} v w) =
       let t : ℕ = instant (setting ts) x f in
-      let later = forced_since σ e rest w in
+      let later = forced_since {x = start_job x d.task} σ e rest w in
       let free : d.start < d.start + (task ts d.task).time = (laws ts good).free_later d.task d.start in (
         omega (arith, (laws ts good).no_overlap x f d.task d.start v, later.0),
         idles_since_append e.start (gap (setting ts) d.start x t d.start) _

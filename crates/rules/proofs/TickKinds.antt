@@ -1,7 +1,7 @@
 -- Every tick of a valid timetable's cycle is of the kind that document 02 calls it. Assumes nothing.
 use mathlib.Core.Path.{◌≡◌, refl, ap}
 use mathlib.Core.List.{List, []}
-use Prim.Native.Nat.{ℕ, ◌≤◌, ◌<◌}
+use Prim.Native.Nat.{ℕ, suc, ◌≤◌, ◌<◌}
 use native.Mathlib.Omega.{arith}
 use lib.Dec.{ltb, leb}
 use lib.ListN.{length}
@@ -45,7 +45,7 @@ module _ (ts : Set) (h : ℕ) (rules : (i : ℕ) → KeepsItsRule (task ts i)) w
     later_starts b (ended l m) k p q = absurd (omega (arith, past_end ts h τ b))
     later_starts {j} b (entry l m n r) k p q =
         let s = ap (λ (d : Entry). d.start) (is_entry ts h τ b) in
-        by_eq k j (λ u. rw u (omega arith)) (λ u. omega (arith, later_starts (at_next ts h τ b) r k (omega arith) q))
+        by_eq k j (λ u. rw u (omega arith)) (λ u. omega (arith, later_starts {j = suc j} (at_next ts h τ b) r k (omega arith) q))
 
     -- an idle tick: entries before j are over, later ones have not begun
     module _ {j : ℕ} {x : List ℕ} {f : ℕ} {σ : List Entry} (tick : ℕ) (b : Before ts h τ j x f σ) (inside : tick < h)
@@ -101,7 +101,7 @@ module _ (ts : Set) (h : ℕ) (rules : (i : ℕ) → KeepsItsRule (task ts i)) w
         (λ w. rw (t, w)
         (record { j = j; an_entry = an_entry ts h τ b; begun = omega (arith, ltb-false tick e.start t); not_over = omega (arith, ltb-true tick F w) }))
         (λ w. rw (t, w)
-        (kind_from tick (at_next ts h τ b) r (ltb-false tick F w) q
+        (kind_from {j = suc j} tick (at_next ts h τ b) r (ltb-false tick F w) q
         (λ k u v. by_eq k j (λ z. rw z (omega arith)) (λ z. omega (arith, over k (omega arith) v))))))
 
     -- every tick of a valid timetable's cycle

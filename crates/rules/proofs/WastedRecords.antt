@@ -41,6 +41,7 @@ use Rattle.rules.proofs.OffsetReplay.{first_inversion_offset, before_pair, befor
 
 -- a table has a delay for the job of each of its records
 member_delay : {r : Inversion} (p : List Inversion) → Memᴰ r p → delay_of p r.task r.job ≡ none → ⊥
+member_delay {r = r} [] m e = elim m [ ]
 member_delay {r} (s ∷ p) (Memᴰ.head q) e =
     let g : some s.delay ≡ none = sym (delay_here s p r.task r.job (rw q) (rw q)) ∙ e in clash (cc)
 member_delay {r} (s ∷ p) (Memᴰ.tail m) e =

@@ -1,3 +1,4 @@
+#![tactic(auto)]
 // The types of the project: what document 01 speaks of, as the crates above pass it on. The rule book over them is in specs/.
 
 // The largest number of 32 bits.
