@@ -1,5 +1,7 @@
 // The next start: document 01's decision rule at byte offsets, for replay and for the dispatcher alike. Records are read by the table of marks and
 // the body readers that framing has.
+#![tactic(auto)]
+
 ghost use Rattle.std.specs.Prelude.{◌≡◌, true, ℕ, ◌+◌, min, ◌≤◌, ◌<◌, eqb, length};
 ghost use Rattle.std.specs.Int.Count.{count_trailing_zeros};
 ghost use Rattle.rules.specs.Tasks.{Set};
@@ -25,7 +27,7 @@ pub const RELEASE: usize = 1;
 pub const OFFSETS: usize = 2;
 
 // How far replay has come: the instant from which the processor is free, and the ID offset.
-#[derive(Drop)]
+#[derive(Clone, Copy)]
 pub struct Front {
     pub free: u32,
     pub idle: u32,
@@ -63,7 +65,7 @@ fn whole(image: &[u8], o: u32, k: usize) -> bool
 }
 
 // What the ID offset shows: nothing that may stand there, no idle record, or one.
-#[derive(Drop)]
+#[derive(Clone, Copy)]
 pub enum IdleShown {
     Unreadable,
     NoRecord,
@@ -116,7 +118,7 @@ fn idle_shown(image: &[u8], judged: bool, kept: &[[u32; 16]; 6], o: u32) -> Idle
 }
 
 // What a task's offset shows: nothing that may stand there, no inversion record, or one.
-#[derive(Drop)]
+#[derive(Clone, Copy)]
 pub enum InversionShown {
     Unreadable,
     NoRecord,
@@ -263,7 +265,7 @@ fn shows_delay(image: &[u8], offset: u32, task: u32, job: u32, delay: u32) -> bo
 }
 
 // A task, 16 for none, and whether its offset shows its next job's record.
-#[derive(Drop)]
+#[derive(Clone, Copy)]
 pub struct Chosen {
     pub task: u32,
     pub own: bool,
@@ -304,7 +306,7 @@ fn chosen_task(image: &[u8], at: &[[u32; 16]; 3], mask: u16, t: u32) -> Chosen
 }
 
 // A start, with what it used: the ID offset and the task's own offset behind it, and whether a lower-numbered task was waiting.
-#[derive(Drop)]
+#[derive(Clone, Copy)]
 pub struct Found {
     pub task: u32,
     pub start: u32,
@@ -314,7 +316,7 @@ pub struct Found {
 }
 
 // The next start, or the number of what stops it.
-#[derive(Drop)]
+#[derive(Clone, Copy)]
 pub enum NextStart {
     Starts(Found),
     Stuck(u32),
@@ -374,7 +376,7 @@ fn start_at(
 }
 
 // Where idling ends: whether the ID offset could be read all the way; the instant at which no idle record is used, and the ID offset there.
-#[derive(Drop)]
+#[derive(Clone, Copy)]
 pub struct Idled {
     pub readable: bool,
     pub start: u32,

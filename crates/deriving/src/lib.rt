@@ -1,5 +1,7 @@
 // Deriving: the tables of a timetable image, counted by the walk that judges it and written in a second one. No heap; memory beside the arguments is a
 // few arrays of 16.
+#![tactic(auto)]
+
 ghost use Rattle.std.specs.Prelude.{◌≡◌, true, ◌+◌, ◌≤◌, ◌<◌, length, get_or};
 ghost use Rattle.rules.specs.Tasks.{Set};
 ghost use Rattle.rules.specs.Marks.{ID, PV, size};

@@ -1,5 +1,7 @@
 // The dispatcher: beginning and going on, with the state as the numbers that it lies in memory as, by value, and in place. For any bytes, any state and any
 // reported end. Every start, the first one, one in a cycle and one as a cycle begins, is looked for and stored in one place.
+#![tactic(auto)]
+
 ghost use Rattle.std.specs.Prelude.{◌≡◌, ◌+◌, ◌*◌, ◌≤◌, ◌<◌, length};
 ghost use Rattle.rules.specs.declared.StartAnswer.TheVariants.{Refused};
 ghost use Rattle.rules.specs.Refusals.{refusal, of_no_image};

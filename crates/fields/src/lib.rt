@@ -1,6 +1,7 @@
 // Big-endian fields of 1, 2 and 4 bytes: read and stored at a place of a slice. A field that does not stand whole in the slice reads as 0, and
 // storing it changes nothing. The facts are proved once over the width.
 #![tactic(auto)]
+
 ghost use Rattle.std.specs.Prelude.{◌≡◌, [], ◌∷◌};
 ghost use Rattle.fields.specs.Number.{number, field_at, stored_at};
 

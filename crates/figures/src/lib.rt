@@ -1,6 +1,8 @@
 // The figures of an axis: the table image at the front is judged and its entries rebuilt; a walk through them adds up busy ticks, forced idle and each
 // task's lateness, and the capacities follow from the set. No heap; memory beside the arguments is room for the longest timetable image and a few arrays
 // of 16.
+#![tactic(auto)]
+
 ghost use Rattle.std.specs.Prelude.{◌≡◌, List, ◌<◌, pos, ◌-ℤ◌};
 ghost use Rattle.rules.specs.declared.Entry as book_entry;
 ghost use Rattle.rules.specs.Tasks.{Set};
@@ -41,7 +43,7 @@ fn worsen(worst: &mut [i64; 16], i: usize, first: bool, start: u32, latest: u32)
 }
 
 // What a walk through a timetable's entries comes to: busy ticks, forced idle, and the lateness of each task's worst job.
-#[derive(Drop)]
+#[derive(Clone, Copy)]
 pub struct Times {
     pub busy: u32,
     pub forced: u32,

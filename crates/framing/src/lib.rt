@@ -1,4 +1,6 @@
 // Framing: record by record, left from inside with the first refusal; and the set of an image whose tasks are framed.
+#![tactic(auto)]
+
 ghost use Rattle.std.specs.Prelude.{◌≡◌, ◌<◌, ◌≤◌, length};
 ghost use Rattle.rules.specs.Marks as book_marks;
 ghost use Rattle.images.specs.Table.{mark_of};
@@ -48,7 +50,7 @@ fn allowed(kind: u32, least: usize, k: usize) -> bool
 }
 
 // What one record comes to: framing goes on behind it, has come to EN, or is refused.
-#[derive(Drop)]
+#[derive(Clone, Copy)]
 pub enum Step {
     GoesOn(Place),
     Ended(Layout),
@@ -205,7 +207,7 @@ fn step_at(image: &[u8], kind: u32, s: Place) -> Step
     after(image, kind, s, k)
 }
 
-#[derive(Drop)]
+#[derive(Clone, Copy)]
 pub enum FrameAnswer {
     Framed(Layout),
     Refused(Located),
@@ -257,7 +259,7 @@ fn past_tasks(image: &[u8], kind: u32, s: Place) -> Place
 }
 
 // TS and the tasks framed: the place behind them.
-#[derive(Drop)]
+#[derive(Clone, Copy)]
 pub enum TasksAnswer {
     Framed(Place),
     Refused(Located),

@@ -1,6 +1,8 @@
 // The C face: the names of include/hervantyu.h, over the proved crates. Each function returns the refusal's number, 0 where there is none, and stores its
 // place, and for an image the record's byte offset behind it, where they are lent; on a refusal nothing else that was lent changes, but for the dispatcher's
 // state and the intake's.
+#![tactic(auto)]
+
 ghost use Rattle.std.specs.Prelude.{◌≡◌};
 ghost use Rattle.rules.specs.Refusals.{tells_refusal, start_tells};
 ghost use Rattle.rules.specs.declared.Intake.TheVariants as book_intake;

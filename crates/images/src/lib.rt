@@ -1,4 +1,6 @@
 // Images: the one table of marks, and the reader of each body.
+#![tactic(auto)]
+
 ghost use Rattle.std.specs.Prelude.{◌≡◌, ◌+◌, ◌*◌, ◌≤◌, ◌<◌, length};
 ghost use Rattle.rules.specs.Marks as book_marks;
 ghost use Rattle.images.specs.Table.{mark_of, code_row, found_at, stands_at};
@@ -7,7 +9,7 @@ ghost use Rattle.images.specs.Bodies.{part_of, head_of, task_of, entry_of, idle_
 use rules::{Entry, Idle, Inversion, Task};
 
 // What a record is to framing: TS, a task, a record of the head that may be missing, an SL or ID, an inversion, EN.
-#[derive(Drop)]
+#[derive(Clone, Copy)]
 pub enum Class {
     Head,
     Task,
@@ -19,7 +21,7 @@ pub enum Class {
 
 // A mark's two bytes, the widths of its fields, 0 for none, the length of its body and of the whole record, the kinds of image that have it, its rank, which
 // never falls in an image, its class, and whether its record stands at most once.
-#[derive(Drop)]
+#[derive(Clone, Copy)]
 pub struct Row {
     pub first: u8,
     pub second: u8,
@@ -236,7 +238,7 @@ pub fn part(image: &[u8], at: usize, len: usize) -> &[u8]
 }
 
 // TS's body: edition, kind, n.
-#[derive(Drop)]
+#[derive(Clone, Copy)]
 pub struct Head {
     pub edition: u32,
     pub kind: u32,

@@ -1,4 +1,6 @@
 // The intake: fragments of a table image collected at the front of a lent buffer, and judged there at a closing call.
+#![tactic(auto)]
+
 ghost use Rattle.std.specs.Prelude.{◌≡◌};
 ghost use Rattle.rules.specs.Intake as book;
 

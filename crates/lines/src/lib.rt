@@ -1,4 +1,6 @@
 // Lines: the text of a timetable's listing, and what the program writes for its whole input.
+#![tactic(auto)]
+
 ghost use Rattle.std.specs.Prelude.{◌≡◌, ◌+◌, ◌≤◌, length};
 ghost use Rattle.rules.specs.Marks as book_marks;
 ghost use Rattle.images.specs.Bodies.{part_of, head_of};

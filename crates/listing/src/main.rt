@@ -1,6 +1,8 @@
 // Lists the table image on standard input: a line for each start of the timetable that is rebuilt from it, with task, job, start and end,
 // then a last line with the number of starts; or one line with the refusal (`lines::list`). A read or a write that fails is told on standard
 // error; after a read that failed nothing is listed.
+#![tactic(auto)]
+
 ghost use Rattle.standard.specs.Calls.{Holds};
 
 use lines::ROOM;

@@ -1,4 +1,6 @@
 // Numbers in memory: a set's and a dispatcher's state's. What they stand for, and how they are stored.
+#![tactic(auto)]
+
 ghost use Rattle.std.specs.Prelude.{◌≡◌, [], ◌∷◌, ◌+◌, ◌≤◌, length};
 ghost use Rattle.std.proofs.lemmas.List.Edits.{sets};
 ghost use Rattle.rules.specs.Dispatcher as book;

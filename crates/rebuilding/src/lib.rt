@@ -1,4 +1,6 @@
 // Rebuilding: the timetable image of a table image. The image is accepted first; a second replay writes the entries.
+#![tactic(auto)]
+
 ghost use Rattle.std.specs.Prelude.{◌≡◌, List};
 ghost use Rattle.rules.specs.Tasks.{Set};
 ghost use Rattle.rules.specs.declared.Entry as book_entry;

@@ -1,4 +1,6 @@
 // The records of a table image: their own rules, 17 in their turn, and the offsets as at a cycle's start.
+#![tactic(auto)]
+
 ghost use Rattle.std.specs.Prelude.{◌≡◌, ℕ, ◌+◌, ◌≤◌, length};
 ghost use Rattle.rules.specs.Tasks as book;
 ghost use Rattle.rules.specs.Marks as book_marks;

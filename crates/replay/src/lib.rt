@@ -1,5 +1,7 @@
 // Starts, one behind the other: replay through a cycle, for accepting and for rebuilding, and the dispatcher's one start. All of them come to the
 // next start in one place, so that the compiler puts it in line. No heap and no table of jobs; memory beside the arguments is a few rows of 16.
+#![tactic(auto)]
+
 ghost use Rattle.std.specs.Prelude.{◌≡◌, ◌+◌, get_or};
 ghost use Rattle.rules.specs.Tasks.{Set};
 ghost use Rattle.sets.specs.Kept.{times_in, periods_in};
@@ -69,7 +71,7 @@ fn step(kept: &[[u32; 16]; 6], at: &mut [[u32; 16]; 3], f: Found) -> Front
 
 // What a run of starts came to: how many it found, the least offset of a PV record that had no effect, and the last answer, a start or what stopped
 // it.
-#[derive(Drop)]
+#[derive(Clone, Copy)]
 pub struct Run {
     pub made: usize,
     pub wasted: u32,

@@ -1,5 +1,7 @@
 // Reports on the line of table images on standard input, in constant memory: the figures of each, one a line, image after image; or a line with the refusal,
 // which ends the report (`reporting::turn`). A read or a write that fails is told on standard error and ends it; what was written before stays.
+#![tactic(auto)]
+
 ghost use Rattle.std.specs.Prelude.{◌+◌, ◌≤◌, ◌<◌, length};
 ghost use Rattle.reporting.specs.Report.{most_images};
 ghost use Rattle.reporting.specs.Turns.{room};
@@ -10,7 +12,7 @@ use standard::Input;
 use text::LONGEST_INPUT;
 
 // Where the report stands: the bytes that are held lie in the buffer from `begin` to `end`; whether more can come; how many images there were.
-#[derive(Drop)]
+#[derive(Clone, Copy)]
 struct Stand {
     begin: usize,
     end: usize,
@@ -19,7 +21,7 @@ struct Stand {
 }
 
 // Whether the report goes on, and from where.
-#[derive(Drop)]
+#[derive(Clone, Copy)]
 enum Next {
     On(Stand),
     Ended,

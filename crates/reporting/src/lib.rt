@@ -1,4 +1,6 @@
 // Reporting: what one turn of the report over a line of images comes to, over the bytes that are held.
+#![tactic(auto)]
+
 ghost use Rattle.std.specs.Prelude.{[], ◌*◌, ◌≤◌, length};
 ghost use Rattle.text.specs.Puts.{AtFront};
 ghost use Rattle.reporting.specs.Report.{figure_lines, image_turn, turn};
@@ -8,14 +10,14 @@ use rules::{AxisAnswer, Located};
 use text::LONGEST_INPUT;
 
 // What is told of an image: the length of its lines, and its bytes.
-#[derive(Drop)]
+#[derive(Clone, Copy)]
 pub struct Told {
     pub text: usize,
     pub used: usize,
 }
 
 // What a turn comes to: more bytes are needed, and can come; an image's lines; or the last lines of the report, so many bytes.
-#[derive(Drop)]
+#[derive(Clone, Copy)]
 pub enum TurnAnswer {
     Waits,
     GoesOn(Told),

@@ -6,7 +6,7 @@ pub const LARGEST: u32 = 4294967295;
 
 // A task: offset O, declared time C, period T, relative deadline D.
 #[repr(C)]
-#[derive(Drop)]
+#[derive(Clone, Copy)]
 pub struct Task {
     pub offset: u32,
     pub time: u32,
@@ -24,7 +24,7 @@ pub const NO_TASK: Task = Task {
 
 // A set of n tasks, in the first n slots.
 #[repr(C)]
-#[derive(Drop)]
+#[derive(Clone, Copy)]
 pub struct TaskSet {
     pub n: u32,
     pub tasks: [Task; 16],
@@ -37,21 +37,21 @@ pub const NO_SET: TaskSet = TaskSet {
 };
 
 // An entry of a timetable.
-#[derive(Drop)]
+#[derive(Clone, Copy)]
 pub struct Entry {
     pub task: u32,
     pub start: u32,
 }
 
 // A forced idle, as an ID record holds it.
-#[derive(Drop)]
+#[derive(Clone, Copy)]
 pub struct Idle {
     pub start: u32,
     pub length: u32,
 }
 
 // An inversion, as a PV record holds it.
-#[derive(Drop)]
+#[derive(Clone, Copy)]
 pub struct Inversion {
     pub task: u32,
     pub job: u32,
@@ -59,14 +59,14 @@ pub struct Inversion {
 }
 
 // A refusal: its number and its place.
-#[derive(Drop)]
+#[derive(Clone, Copy)]
 pub struct Refusal {
     pub number: u32,
     pub place: usize,
 }
 
 // The refusal of an image, located in its bytes: its number, its place, and the byte offset of the record that the place names, 0 where it names none.
-#[derive(Drop)]
+#[derive(Clone, Copy)]
 pub struct Located {
     pub number: u32,
     pub place: usize,
@@ -89,7 +89,7 @@ pub const TOO_LONG: Located = Located {
 
 // Where framing stands before a record: the record's index and byte offset, the least rank that it may have, TK records still due, and how many TK, SL or
 // ID, and PV records there are so far.
-#[derive(Drop)]
+#[derive(Clone, Copy)]
 pub struct Place {
     pub index: usize,
     pub offset: usize,
@@ -101,7 +101,7 @@ pub struct Place {
 }
 
 // What framing answers: how many TK records, SL or ID records, and PV records an image has, and the byte after EN.
-#[derive(Drop)]
+#[derive(Clone, Copy)]
 pub struct Layout {
     pub tasks: usize,
     pub listed: usize,
@@ -110,56 +110,56 @@ pub struct Layout {
 }
 
 // What a good set comes to: its hyperperiod and its jobs a cycle.
-#[derive(Drop)]
+#[derive(Clone, Copy)]
 pub struct Figures {
     pub hyperperiod: u32,
     pub jobs: u32,
 }
 
 // Judging a set.
-#[derive(Drop)]
+#[derive(Clone, Copy)]
 pub enum SetAnswer {
     Good(Figures),
     Refused(Refusal),
 }
 
 // Plain checking of an image.
-#[derive(Drop)]
+#[derive(Clone, Copy)]
 pub enum CheckAnswer {
     Accepted,
     Refused(Located),
 }
 
 // Deriving and rebuilding: the length of what now fills the front of the output.
-#[derive(Drop)]
+#[derive(Clone, Copy)]
 pub enum MakeAnswer {
     Made(usize),
     Refused(Located),
 }
 
 // What is told of an axis: how many figures it has, and how many bytes its image.
-#[derive(Drop)]
+#[derive(Clone, Copy)]
 pub struct Axis {
     pub figures: usize,
     pub used: usize,
 }
 
 // The figures of the image at the front.
-#[derive(Drop)]
+#[derive(Clone, Copy)]
 pub enum AxisAnswer {
     Measured(Axis),
     Refused(Located),
 }
 
 // An intake of fragments: shut, or open with so many bytes taken.
-#[derive(Drop)]
+#[derive(Clone, Copy)]
 pub enum Intake {
     Shut,
     Open(usize),
 }
 
 // A job that starts now: its cycle and absolute time.
-#[derive(Drop)]
+#[derive(Clone, Copy)]
 pub struct Start {
     pub task: u32,
     pub job: u32,
@@ -168,7 +168,7 @@ pub struct Start {
 }
 
 // Beginning and going on.
-#[derive(Drop)]
+#[derive(Clone, Copy)]
 pub enum StartAnswer {
     Start(Start),
     Refused(Located),
@@ -176,7 +176,7 @@ pub enum StartAnswer {
 
 // Byte offsets into the image: of the ID to be used next and, for each task, of its next PV.
 #[repr(C)]
-#[derive(Drop)]
+#[derive(Clone, Copy)]
 pub struct Offsets {
     pub idle: u32,
     pub inversions: [u32; 16],
@@ -184,7 +184,7 @@ pub struct Offsets {
 
 // The job that runs, with its start in the cycle.
 #[repr(C)]
-#[derive(Drop)]
+#[derive(Clone, Copy)]
 pub struct Running {
     pub task: u32,
     pub job: u32,
@@ -193,7 +193,7 @@ pub struct Running {
 
 // The dispatcher's state, 119 numbers: the set, next job numbers, the cycle, the running job, offsets now and as at a cycle's start.
 #[repr(C)]
-#[derive(Drop)]
+#[derive(Clone, Copy)]
 pub struct Dispatcher {
     pub set: TaskSet,
     pub next: [u32; 16],
@@ -204,7 +204,7 @@ pub struct Dispatcher {
 }
 
 // What a call of the dispatcher hands back: the answer, and the state beside it.
-#[derive(Drop)]
+#[derive(Clone, Copy)]
 pub struct Turn {
     pub answer: StartAnswer,
     pub state: Dispatcher,

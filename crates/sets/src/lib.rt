@@ -1,5 +1,7 @@
 // Task sets judged: 5 to 9 in document 01's order, with the places that the set's records would have, and the rows that are kept of a good one. And what a
 // good set is asked for: jobs of a task, releases and deadlines; with scans of the slots of its tasks. Exact for any 32-bit numbers: no sum or product wraps.
+#![tactic(auto)]
+
 ghost use Rattle.std.specs.Prelude.{◌≡◌, ◌+◌, max, ◌≤◌, length};
 ghost use Rattle.rules.specs.Tasks as book;
 ghost use Rattle.numbers.specs.Numbers.{tasks_from, set_from};
@@ -201,7 +203,7 @@ fn all_jobs(h: u32, n: usize, numbers: &[u32], at: usize) -> u32
 }
 
 // What 5 to 8 leave of a set: the ticks of its cycle, or the first refusal.
-#[derive(Drop)]
+#[derive(Clone, Copy)]
 enum Cycle {
     Ticks(u32),
     Refused(Refusal),

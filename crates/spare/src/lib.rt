@@ -1,5 +1,7 @@
 // Spare capacities: the intervals of a cycle walked backwards, and their capacities left in order of time in a lent array. No heap; memory beside the
 // arguments is an array of 16.
+#![tactic(auto)]
+
 ghost use Rattle.std.specs.Prelude.{◌≡◌, ◌++◌, ◌-◌, ◌^◌, ◌≤◌, ◌<◌, length, drop};
 ghost use Rattle.std.specs.Int.Signed.{mag};
 ghost use Rattle.rules.specs.Tasks.{Set};
@@ -59,7 +61,7 @@ fn a_period_before(due: u32, period: u32) -> u32
 }
 
 // Of the jobs due at an instant: their declared times together, and the longest of their relative deadlines.
-#[derive(Drop)]
+#[derive(Clone, Copy)]
 struct Due {
     work: u32,
     longest: u32,
@@ -87,14 +89,14 @@ fn take_due(kept: &[[u32; 16]; 6], dues: &mut [u32; 16], e: u32) -> Due
 }
 
 // Where the walk stands: the last deadline not yet taken, and the begin of the interval taken last.
-#[derive(Drop)]
+#[derive(Clone, Copy)]
 struct Walk {
     end: u32,
     behind: u32,
 }
 
 // The declared times of the jobs in an interval, and where the walk stands before it.
-#[derive(Drop)]
+#[derive(Clone, Copy)]
 struct Step {
     work: u32,
     walk: Walk,

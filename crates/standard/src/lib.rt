@@ -1,12 +1,14 @@
 // Standard input and standard output: a read behind the bytes that are held, and the writing of a whole text. A call that was interrupted is made again; a
 // proved loop has to end, so that is counted down, from a number that no run uses up.
+#![tactic(auto)]
+
 ghost use Rattle.std.specs.Prelude.{◌≡◌, ◌≤◌, length};
 ghost use Rattle.standard.specs.Calls.{call_of, Moves, ReadFrom, ReadBehind};
 
 use libc::{EINTR, STDIN_FILENO, STDOUT_FILENO};
 
 // What a call of read or write came to.
-#[derive(Drop)]
+#[derive(Clone, Copy)]
 enum Call {
     Moved(usize),
     Interrupted,
@@ -36,7 +38,7 @@ fn read_from(input: &mut [u8], at: usize) -> Call
 }
 
 // What reading came to: so many bytes at the front of the buffer, or a read that failed.
-#[derive(Drop)]
+#[derive(Clone, Copy)]
 pub enum Input {
     Held(usize),
     Failed,

@@ -1,4 +1,6 @@
 // Table images: framing, the set, records in turn, then replay and comparison in one pass through a cycle; and plain checking.
+#![tactic(auto)]
+
 ghost use Rattle.std.specs.Prelude.{◌≡◌};
 ghost use Rattle.rules.specs.Tasks.{Set};
 ghost use Rattle.rules.specs.Operations.{rebuilt, check_tables};
@@ -56,7 +58,7 @@ fn replay_fault(image: &[u8], kept: &[[u32; 16]; 6], idles: usize, first: Offset
 }
 
 // What a table image comes to: a refusal, with number 0 for none; and the set and the offsets as at a cycle's start, all zero where the image is refused.
-#[derive(Drop)]
+#[derive(Clone, Copy)]
 pub struct Tables {
     pub refusal: Located,
     pub set: TaskSet,

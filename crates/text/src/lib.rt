@@ -1,4 +1,6 @@
 // Text: bytes, numbers and refusals as the programs write them, put at a place of a lent output.
+#![tactic(auto)]
+
 ghost use Rattle.std.specs.Prelude.{◌≡◌, ◌+◌, ◌≤◌, pos, nat_abs, length, ◌<ℤ◌};
 ghost use Rattle.text.specs.Text.{number_then, signed_then, refused_text, too_long};
 ghost use Rattle.text.specs.Puts.{PutAt, AtFront};

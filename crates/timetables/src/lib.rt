@@ -1,5 +1,7 @@
 // Timetable images: one walk over the entries that judges them and, where asked, counts their irregularities; and plain checking. No heap; memory
 // beside the arguments is a few arrays of 16.
+#![tactic(auto)]
+
 ghost use Rattle.std.specs.Prelude.{◌≡◌, ◌+◌, ◌*◌, ◌<◌, ◌≤◌, length, take, nat_lt};
 ghost use Rattle.rules.specs.Tasks.{Set, largest_number};
 ghost use Rattle.rules.specs.Marks.{SL as entry-mark, size, head_length_of};
@@ -117,7 +119,7 @@ pub fn lower_waits(release: &[u32; 16], i: usize, start: u32) -> bool
 }
 
 // How many forced idles a timetable has, how many inversions, and how many of them are each task's.
-#[derive(Drop)]
+#[derive(Clone, Copy)]
 pub struct Counts {
     pub idles: usize,
     pub inversions: usize,
@@ -126,7 +128,7 @@ pub struct Counts {
 
 // Where a walk over the entries stops: the number of the rule that the entry there breaks, 0 where no whole SL record stands; how many entries are
 // before it; the first task with a job missing; and, where they were asked for, the irregularities so far.
-#[derive(Drop)]
+#[derive(Clone, Copy)]
 pub struct Walk {
     pub number: u32,
     pub entries: usize,
@@ -190,7 +192,7 @@ fn walk_entries(image: &[u8], kept: &[[u32; 16]; 6], count: bool) -> Walk
 
 // What a timetable image comes to: a refusal, with number 0 for none; and the set, how many entries there are, and what was counted of them where that
 // was asked for.
-#[derive(Drop)]
+#[derive(Clone, Copy)]
 pub struct Timetable {
     pub refusal: Located,
     pub set: TaskSet,

@@ -1,4 +1,6 @@
 // Writing: each record of an image at a place of a lent output, by the table of marks. A record that does not fit there whole changes nothing.
+#![tactic(auto)]
+
 ghost use Rattle.std.specs.Prelude.{◌≡◌, [], ◌∷◌, ◌+◌, ◌-◌, ◌<◌, ◌≤◌, length};
 ghost use Rattle.rules.specs.Tasks as book_tasks;
 ghost use Rattle.rules.specs.Marks as book_marks;
