@@ -1,0 +1,10 @@
+-- `images::stands` meets its contract: the bytes left are compared with the record's, then its mark is looked at. Assumes nothing.
+use native.Mathlib.Omega.{arith}
+use Rattle.images.proofs.TableLaws.{stands_cut}
+use Rattle.images.proofs.stands.Goals as goal
+
+pub returns-then-image-at : goal.returns-then-image-at
+returns-then-image-at c = stands_cut _ _ _ (omega (arith, c.if-image-at.true, c.size_of.ensures))
+
+pub returns : goal.returns
+returns c = c.marked.ensures
