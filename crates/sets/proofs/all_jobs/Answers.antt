@@ -20,7 +20,7 @@ pub overflow_add-sum : goal.overflow_add-sum
 overflow_add-sum c =
     let counted : (c.if-t-after.after ≡ c.task_from-t.result.period)
     × (c.if-t-after.many ≡ jobs c.args.h c.task_from-t.result) =
-    elim c.if-t-after.branch [ then-t-after w ↦ (w.2, w.3 ∙ w.1.ensures) | else-t-after w ↦ (w.1 ∙ sym w.0.left, w.2 ∙ c.loop-i.invariant.each ∙ ap (λ (k : ℕ). c.args.h / k) (sym w.0.left)) ] in
+    elim c.if-t-after.branch [ then-t-after w ↦ (w.after-is, w.many-is ∙ w.jobs-many.ensures) | else-t-after w ↦ (w.after-is ∙ sym w.if-t-after.false, w.many-is ∙ c.loop-i.invariant.each ∙ ap (λ (k : ℕ). c.args.h / k) (sym w.if-t-after.false)) ] in
     let more : let a = c.args in
     let tasks = (set_from a.n a.numbers.now a.at).tasks in
     JobsFrom a.h tasks a.n (c.loop-i.i - 1) (c.loop-i.sum + c.if-t-after.many) c.if-t-after.after c.if-t-after.many =
@@ -33,7 +33,7 @@ pub loop-i-preserved : goal.loop-i-preserved
 loop-i-preserved c =
     let counted : (c.if-t-after.after ≡ c.task_from-t.result.period)
     × (c.if-t-after.many ≡ jobs c.args.h c.task_from-t.result) =
-    elim c.if-t-after.branch [ then-t-after w ↦ (w.2, w.3 ∙ w.1.ensures) | else-t-after w ↦ (w.1 ∙ sym w.0.left, w.2 ∙ c.loop-i.invariant.each ∙ ap (λ (k : ℕ). c.args.h / k) (sym w.0.left)) ] in
+    elim c.if-t-after.branch [ then-t-after w ↦ (w.after-is, w.many-is ∙ w.jobs-many.ensures) | else-t-after w ↦ (w.after-is ∙ sym w.if-t-after.false, w.many-is ∙ c.loop-i.invariant.each ∙ ap (λ (k : ℕ). c.args.h / k) (sym w.if-t-after.false)) ] in
     let more : let a = c.args in
     let tasks = (set_from a.n a.numbers.now a.at).tasks in
     JobsFrom a.h tasks a.n (c.loop-i.i - 1) (c.loop-i.sum + c.if-t-after.many) c.if-t-after.after c.if-t-after.many =
@@ -45,4 +45,4 @@ loop-i-preserved c =
 pub returns : goal.returns
 returns c =
     let e : c.loop-i.i ≡ 0 = omega arith in
-    rw e c c.loop-i.invariant.is
+    rw e at c.loop-i.invariant.is

@@ -1,5 +1,4 @@
 -- `sets::all_jobs` meets its contract. The invariant: sum is the jobs of the tasks from i on, many those of a task with period after. Assumes nothing.
-use Prim.Native.Nat.{◌-◌}
 use Rattle.numbers.specs.Numbers.{set_from}
 use Rattle.sets.proofs.Cycles.{JobsFrom}
 use Rattle.sets.proofs.all_jobs.Given as goal

@@ -1,6 +1,6 @@
 -- `sets::judge_cycle` meets its contract: a refusal is the rule book's, and what passes has a cycle. Assumes nothing.
 use native.Mathlib.Omega.{arith}
-use borrow.Author.Tests.{ltb-true, ltb-false}
+use borrow.Author.Tests.{ltb-false}
 use Rattle.numbers.specs.Numbers.{set_from}
 use Rattle.numbers.proofs.SetNumbers.{sixteen_tasks}
 use Rattle.sets.specs.Sets.{InSlots}
@@ -12,7 +12,7 @@ use Rattle.sets.proofs.judge_cycle.Goals.{then-n-lt1-via-else-n-lt1+then-n-gt16,
 pub returns-then-n-lt1 : goal.returns-then-n-lt1
 returns-then-n-lt1 c =
     let s = (set_from c.args.n c.args.numbers.now c.args.at) in
-    elim c.then-n-lt1.branch [ then-n-lt1-via-then-n-lt1 w ↦ refused_empty s w.taken | then-n-lt1-via-else-n-lt1+then-n-gt16 w ↦ refused_crowded s w.0.left (ltb-true 16 s.n w.1.taken) ]
+    elim c.then-n-lt1.branch [ then-n-lt1-via-then-n-lt1 w ↦ refused_empty s w.if-n-lt1.true | then-n-lt1-via-else-n-lt1+then-n-gt16 w ↦ refused_crowded s w.if-n-lt1.false w.if-n-gt16.true ]
 
 pub ticks-h-requires : goal.ticks-h-requires
 ticks-h-requires c =

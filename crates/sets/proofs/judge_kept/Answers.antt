@@ -11,7 +11,7 @@ pub keep-requires : goal.keep-requires
 keep-requires c =
     let found : let a = c.args in HasCycle (set_from a.n a.numbers.now a.at) c.in-Ticks.h =
     rw c.in-Ticks.is at c.judge_cycle.ensures in
-    (found, c.requires)
+    record { cycle = found; inside = c.requires.inside; rows = c.requires.rows }
 
 pub returns-in-Refused : goal.returns-in-Refused
 returns-in-Refused c =
@@ -21,7 +21,6 @@ pub returns-in-Ticks : goal.returns-in-Ticks
 returns-in-Ticks c =
     let found : let a = c.args in HasCycle (set_from a.n a.numbers.now a.at) c.in-Ticks.h =
     rw c.in-Ticks.is at c.judge_cycle.ensures in
-    let kept = c.keep.ensures in
     let cycle = found in
-    let judged = c.limited.ensures ∙ by_jobs cycle _ kept.0 in
-    record { answer = judged; keeps = λ f e. kept.1 (good_cycle cycle ((good_exactly _ _ judged f).0 e)) }
+    let judged = c.limited.ensures ∙ by_jobs cycle _ c.keep.ensures.jobs in
+    record { answer = judged; keeps = λ f e. c.keep.ensures.filled (good_cycle cycle ((good_exactly _ _ judged f).0 e)) }

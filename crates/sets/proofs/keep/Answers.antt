@@ -17,7 +17,7 @@ use Rattle.sets.proofs.keep.Goals.{else-t-after, then-t-after}
 pub loop-k-init : goal.loop-k-init
 loop-k-init c =
     let in_slots = c.requires.cycle.in_slots in
-    (jobs_start c.args.h (set_from c.args.n c.args.numbers.now c.args.at).tasks c.args.n (omega arith) (omega arith), rows_start c.requires.1.1 in_slots _)
+    (jobs_start c.args.h (set_from c.args.n c.args.numbers.now c.args.at).tasks c.args.n (omega arith) (omega arith), rows_start c.requires.rows in_slots _)
 
 pub overflow_sub-kept : goal.overflow_sub-kept
 overflow_sub-kept c =
@@ -33,7 +33,7 @@ overflow_add-all c =
     let a = c.args in
     c.task_from-t.ensures ∙ task_in a.n a.numbers.now a.at no_slot (c.loop-k.k - 1) (omega arith) in
     let counted : (c.if-t-after.after ≡ c.task_from-t.result.period) × (c.if-t-after.many ≡ jobs c.args.h c.task_from-t.result) =
-    elim c.if-t-after.branch [ then-t-after w ↦ (w.2, w.3 ∙ w.1.ensures) | else-t-after w ↦ (w.1 ∙ sym w.0.left, w.2 ∙ c.loop-k.invariant.0.each ∙ ap (λ (k : ℕ). c.args.h / k) (sym w.0.left)) ] in
+    elim c.if-t-after.branch [ then-t-after w ↦ (w.after-is, w.many-is ∙ w.jobs-many.ensures) | else-t-after w ↦ (w.after-is ∙ sym w.if-t-after.false, w.many-is ∙ c.loop-k.invariant.0.each ∙ ap (λ (k : ℕ). c.args.h / k) (sym w.if-t-after.false)) ] in
     let more : JobsFrom c.args.h (set_from c.args.n c.args.numbers.now c.args.at).tasks c.args.n (c.loop-k.k - 1) (c.loop-k.all + c.if-t-after.many) c.if-t-after.after c.if-t-after.many =
     jobs_more c.loop-k.invariant.0 (omega arith) c.requires.cycle.short _ read _ _ counted.0 counted.1 in
     omega (arith, more.leaves_room)
@@ -44,21 +44,19 @@ loop-k-preserved c =
     let a = c.args in
     c.task_from-t.ensures ∙ task_in a.n a.numbers.now a.at no_slot (c.loop-k.k - 1) (omega arith) in
     let counted : (c.if-t-after.after ≡ c.task_from-t.result.period) × (c.if-t-after.many ≡ jobs c.args.h c.task_from-t.result) =
-    elim c.if-t-after.branch [ then-t-after w ↦ (w.2, w.3 ∙ w.1.ensures) | else-t-after w ↦ (w.1 ∙ sym w.0.left, w.2 ∙ c.loop-k.invariant.0.each ∙ ap (λ (k : ℕ). c.args.h / k) (sym w.0.left)) ] in
+    elim c.if-t-after.branch [ then-t-after w ↦ (w.after-is, w.many-is ∙ w.jobs-many.ensures) | else-t-after w ↦ (w.after-is ∙ sym w.if-t-after.false, w.many-is ∙ c.loop-k.invariant.0.each ∙ ap (λ (k : ℕ). c.args.h / k) (sym w.if-t-after.false)) ] in
     let more : JobsFrom c.args.h (set_from c.args.n c.args.numbers.now c.args.at).tasks c.args.n (c.loop-k.k - 1) (c.loop-k.all + c.if-t-after.many) c.if-t-after.after c.if-t-after.many =
     jobs_more c.loop-k.invariant.0 (omega arith) c.requires.cycle.short _ read _ _ counted.0 counted.1 in
-    let pre = c.requires in
     let rows = c.loop-k.invariant.1 in (
       more,
-      rw (six_rows c.loop-k.auto rows.rows)
-          (rows_more pre.1.1 pre.0.in_slots _ rows (omega arith) c.loop-k.invariant.0.place _ read _ counted.1),
+      rw (six_rows c.loop-k.kept rows.rows)
+          (rows_more c.requires.rows c.requires.cycle.in_slots _ rows (omega arith) c.loop-k.invariant.0.place _ read _ counted.1),
     )
 
 pub returns : goal.returns
 returns c =
-    let pre = c.requires in
     let end : c.loop-k.k ≡ 0 = omega arith in
-    let rows = rw end c c.loop-k.invariant.1 in
-    let sum = rw end c c.loop-k.invariant.0.is in
-    let front = front_written 0 (figures_in c.loop-k.auto) (omega (arith, ap length rows.figures, pre.1.1.slots 0 (omega arith))) in
-    record { jobs = sum; filled = λ good. rw (six_rows c.loop-k.auto rows.rows, front) (rows_kept pre.1.1 pre.0.in_slots _ rows _ sum _ good) }
+    let rows = rw end at c.loop-k.invariant.1 in
+    let sum = rw end at c.loop-k.invariant.0.is in
+    let front = front_written 0 (figures_in c.loop-k.kept) (omega (arith, ap length rows.figures, c.requires.rows.slots 0 (omega arith))) in
+    record { jobs = sum; filled = λ good. rw (six_rows c.loop-k.kept rows.rows, front) (rows_kept c.requires.rows c.requires.cycle.in_slots _ rows _ sum _ good) }

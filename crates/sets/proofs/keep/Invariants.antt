@@ -1,5 +1,4 @@
 -- `sets::keep` meets its contract. The invariant: from task i on the jobs are summed up and the rows are filled. Assumes nothing.
-use Prim.Native.Nat.{◌-◌}
 use Rattle.numbers.specs.Numbers.{set_from}
 use Rattle.sets.proofs.Cycles.{JobsFrom}
 use Rattle.sets.proofs.RowsKept.{RowsFrom}

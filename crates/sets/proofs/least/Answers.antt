@@ -1,6 +1,5 @@
 -- `sets::least` meets its contract. The invariant: the least of the numbers passed. Assumes nothing.
 use mathlib.Core.Path.{◌≡◌, refl}
-use Prim.Native.Nat.{◌-◌}
 use native.Mathlib.Omega.{arith}
 use Rattle.sets.proofs.Scans.{least_more}
 use Rattle.sets.proofs.least.Goals as goal

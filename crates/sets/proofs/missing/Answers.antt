@@ -1,6 +1,5 @@
 -- `sets::missing` meets its contract. The invariant: the scan from slot i on gives what the whole gives. Assumes nothing.
 use mathlib.Core.Path.{sym, ◌∙◌}
-use Prim.Native.Nat.{◌-◌}
 use native.Mathlib.Nat.{sub-zero}
 use native.Mathlib.Omega.{arith}
 use Rattle.sets.proofs.Scans.{scan_ends, scan_goes, scan_past}

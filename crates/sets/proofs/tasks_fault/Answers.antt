@@ -1,6 +1,5 @@
 -- `sets::tasks_fault` meets its contract. The invariant: the first fault is that of the tasks from i on. Assumes nothing.
 use mathlib.Core.Path.{◌∙◌}
-use Prim.Native.Nat.{◌-◌}
 use native.Mathlib.Omega.{arith}
 use Rattle.numbers.specs.Numbers.{set_from}
 use Rattle.numbers.proofs.SetNumbers.{sixteen_tasks, task_in}

@@ -2,7 +2,7 @@
 use mathlib.Core.Path.{◌≡◌, refl, ◌∙◌}
 use Prim.Native.Nat.{ℕ, ◌-◌}
 use native.Mathlib.Omega.{arith}
-use borrow.Author.Tests.{ltb-true, ltb-false}
+use borrow.Author.Tests.{ltb-false}
 use Rattle.rules.specs.declared.TaskSet.{TaskSet}
 use Rattle.numbers.specs.Numbers.{set_from}
 use Rattle.numbers.proofs.SetNumbers.{sixteen_tasks, task_in}
@@ -23,7 +23,7 @@ returns-then-last-gt65535 c =
     let a = c.args in
     c.task_from-last.ensures ∙ task_in a.n a.numbers.now a.at no_slot (a.n - 1) (omega arith) in
     let some = c.requires.some in
-    none_told (λ h g. elim c.then-last-gt65535.branch [ then-last-gt65535-via-then-last-gt65535 w ↦ last_not_long g _ last-read w.taken | then-last-gt65535-via-else-last-gt65535+then-not-keeps_its_rule w ↦ not_broken_before g _ some (omega arith) _ last-read _ w.1.ensures w.2.taken ])
+    none_told (λ h g. elim c.then-last-gt65535.branch [ then-last-gt65535-via-then-last-gt65535 w ↦ last_not_long g _ last-read w.if-last-gt65535.true | then-last-gt65535-via-else-last-gt65535+then-not-keeps_its_rule w ↦ not_broken_before g _ some (omega arith) _ last-read _ w.keeps_its_rule.ensures w.if-not-keeps_its_rule.true-raw ])
 
 pub loop-i-init : goal.loop-i-init
 loop-i-init c =
@@ -37,7 +37,7 @@ loop-i-init c =
     _ c.keeps_its_rule.ensures c.if-not-keeps_its_rule.false-raw c.if-last-gt65535.false
 
 pub task_from-t-requires : goal.task_from-t-requires
-task_from-t-requires c = omega (arith, c.loop-i.invariant.place, c.requires.few, c.requires.1.1)
+task_from-t-requires c = omega (arith, c.loop-i.invariant.place, c.requires.few, c.requires.inside)
 
 pub returns-then-not-keeps_its_rule-2 : goal.returns-then-not-keeps_its_rule-2
 returns-then-not-keeps_its_rule-2 c =
@@ -60,9 +60,9 @@ returns-then-after-t c =
     let inv = c.loop-i.invariant in
     let p = c.loop-i-test.true in
     none_told (λ h g. elim c.then-after-t.branch [
-      | then-after-t-via-then-after-t w ↦ not_falling_before g c.loop-i.i p (omega (arith, inv.place)) _ next-read _ inv.place inv.next w.taken
+      | then-after-t-via-then-after-t w ↦ not_falling_before g c.loop-i.i p (omega (arith, inv.place)) _ next-read _ inv.place inv.next w.if-after-t.true
       | then-after-t-via-else-after-t+then-h-gt65535 w ↦ not_long_before g c.loop-i.i p (omega (arith, inv.place)) _ next-read inv.is c.common_multiple-h.ensures.is
-          (told_long _ (omega (arith, c.common_multiple-h.ensures.told, ltb-true 65535 c.common_multiple-h.result w.1.taken)))
+          (told_long _ (omega (arith, c.common_multiple-h.ensures.told, w.if-h-gt65535.true)))
     ])
 
 pub loop-i-preserved-then-t-after : goal.loop-i-preserved-then-t-after

@@ -1,5 +1,4 @@
 -- `sets::ticks` meets its contract. The invariant: h is the hyperperiod of the tasks from i on, and they have no fault. Assumes nothing.
-use Prim.Native.Nat.{◌-◌}
 use Rattle.numbers.specs.Numbers.{set_from}
 use Rattle.sets.proofs.Cycles.{CycleFrom}
 use Rattle.sets.proofs.ticks.Given as goal
