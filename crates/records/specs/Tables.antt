@@ -4,7 +4,7 @@ use Rattle.rules.specs.declared.Idle.{Idle}
 use Rattle.rules.specs.declared.Inversion.{Inversion}
 use Rattle.rules.specs.Tasks.{limits}
 use Rattle.rules.specs.Setting.{Tables}
-use Rattle.rules.specs.Marks.{TS, ID, PV, EN, size, values, head_length_of}
+use Rattle.rules.specs.Marks.{ID, PV, EN, size, values, head_length_of}
 use Rattle.rules.specs.Image.{to_idle, to_inversion}
 use Rattle.rules.specs.Framing.{read}
 use Rattle.rules.specs.Offsets.{last_offset}
