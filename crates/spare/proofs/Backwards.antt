@@ -7,8 +7,8 @@ use native.Mathlib.Omega.{arith}
 use lib.Dec.{eqb}
 use lib.ListN.{length, get_or}
 use borrow.Author.Tests.{eq-eqb, ne_eqb}
-use Rattle.rules.specs.Tasks.{Set, task}
-use Rattle.rules.specs.Intervals.{due_at, is_deadline, work_due, first_release, last_deadline, begins, up_to, intervals}
+use Rattle.rules.specs.Tasks.{Set}
+use Rattle.rules.specs.Intervals.{due_at, is_deadline, work_due, first_release, last_deadline, up_to, intervals}
 use Rattle.rules.proofs.Cases.{by_eq}
 use Rattle.rules.proofs.Several.{any_none, any_one, sum_same, greatest_same, greatest_above, greatest_within, greatest_found}
 use Rattle.sets.specs.Kept.{Rows, tasks_in, hyperperiod_in, Keeps}
