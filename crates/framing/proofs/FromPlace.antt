@@ -23,7 +23,7 @@ frame_given kind bytes l e =
     (λ k u g. u ∙ (or_else_gives (unless (nothing_follows bytes k) 10 (index_of_end k)) (gives k) l g).1)
 
 -- a record behind the tasks leaves their number, and takes no listed record back
-listed_after : {kind : ℕ} {s t : Place} {m : Mark} {v : List ℕ} → 2 ≤ s.rank → may_follow s.rank (row m).rank ≡ true →
+listed_after : {kind : ℕ} {s : Place} {m : Mark} {v : List ℕ} {t : Place} → 2 ≤ s.rank → may_follow s.rank (row m).rank ≡ true →
     turns.After kind s m v (goes_on t) → (t.tasks ≡ s.tasks) × (s.listed ≤ t.listed) × (2 ≤ t.rank)
 listed_after {s = s} behind turn (turns.past_head e) = absurd (omega (arith, due_turn s.rank (row TS).rank (omega arith) turn))
 listed_after {s = s} behind turn turns.past_task = absurd (omega (arith, due_turn s.rank (row TK).rank (omega arith) turn))

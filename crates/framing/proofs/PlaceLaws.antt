@@ -72,7 +72,7 @@ counted_behind : {s : Place} (bytes : List ℕ) (m : Mark) → 2 ≤ (row m).ran
 counted_behind {s = s} bytes m h p turn = p.behind_tasks (later_turn s.rank (row m).rank h turn).0
 
 -- a record that framing goes on behind leads to a place in the image
-pub placed_after : {kind : ℕ} {s t : Place} {m : Mark} {v : List ℕ} (bytes : List ℕ) → Placed bytes s → front_mark (drop s.offset bytes) ≡ some m →
+pub placed_after : {kind : ℕ} {s : Place} {m : Mark} {v : List ℕ} {t : Place} (bytes : List ℕ) → Placed bytes s → front_mark (drop s.offset bytes) ≡ some m →
     s.offset + size m ≤ length bytes → may_follow s.rank (row m).rank ≡ true → turns.After kind s m v (goes_on t) → Placed bytes t
 placed_after {s = s} bytes p front whole turn (turns.past_head {v = v} e) =
     let first : s.rank ≡ 0 = due_turn s.rank (row TS).rank (omega arith) turn in
@@ -81,7 +81,7 @@ placed_after {s = s} bytes p front whole turn (turns.past_head {v = v} e) =
 placed_after {s = s} bytes p front whole turn turns.past_task =
     let counted = p.tasks_due (due_turn s.rank (row TK).rank (omega arith) turn) in
     placed_due bytes (suc s.index) (s.offset + size TK) (s.due - 1) s.tasks (behind_a_record TK p.begins front whole) whole (omega arith) (omega arith)
-placed_after {t = t} {m = m} bytes p front whole turn (turns.past_later l e c) =
+placed_after {m = m} {t = t} bytes p front whole turn (turns.past_later l e c) =
     let before = counted_behind bytes m l p turn in
     placed_behind bytes t (behind_a_record m p.begins front whole) whole (omega arith) (omega (arith, not_lower (row m))) (omega (arith, turns.counted c))
 

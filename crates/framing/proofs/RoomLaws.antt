@@ -40,14 +40,14 @@ room_behind s t h late further same-due same_tasks =
     record { room = λ _. omega arith; none_due = λ _. omega arith }
 
 -- a record that framing goes on behind keeps the room
-room_after : {kind : ℕ} {s t : Place} {m : Mark} {v : List ℕ} → HasRoom s → may_follow s.rank (row m).rank ≡ true → turns.After kind s m v (goes_on t) →
+room_after : {kind : ℕ} {s : Place} {m : Mark} {v : List ℕ} {t : Place} → HasRoom s → may_follow s.rank (row m).rank ≡ true → turns.After kind s m v (goes_on t) →
     HasRoom t
 room_after {kind} {s = s} h turn (turns.past_head {v = v} e) =
     room_due (suc s.index) (s.offset + size TS) (slot v 2) (slot v 2) (counts_tasks kind s.index v e).1 (omega arith)
 room_after {s = s} h turn turns.past_task =
     let r = h.room (omega (arith, due_turn s.rank (row TK).rank (omega arith) turn)) in
     room_due (suc s.index) (s.offset + size TK) (s.due - 1) s.tasks r.0 (omega arith)
-room_after {s = s} {t = t} {m = m} h turn (turns.past_later l e c) =
+room_after {s = s} {m = m} {t = t} h turn (turns.past_later l e c) =
     room_behind s t h (later_turn s.rank (row m).rank l turn).0 (omega arith) refl refl
 
 -- where EN ends framing, there is room for all TK records of the layout

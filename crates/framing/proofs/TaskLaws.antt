@@ -76,7 +76,7 @@ towards_due bytes index offset (suc due) n e some few counted ends = record {
 }
 
 -- a record that framing goes on behind, where a task or TS is due, leads on
-towards_after : {kind : ℕ} {s t : Place} {m : Mark} {v : List ℕ} (bytes : List ℕ) → Placed bytes s → TowardsTasks bytes s → s.rank < 2 →
+towards_after : {kind : ℕ} {s : Place} {m : Mark} {v : List ℕ} {t : Place} (bytes : List ℕ) → Placed bytes s → TowardsTasks bytes s → s.rank < 2 →
     t.offset ≤ length bytes → v ≡ values m (drop s.offset bytes) → may_follow s.rank (row m).rank ≡ true → turns.After kind s m v (goes_on t) →
     TowardsTasks bytes t
 towards_after {kind} {s = s} bytes p w low inside read turn (turns.past_head {v = v} e) =
