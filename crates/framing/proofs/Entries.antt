@@ -23,7 +23,8 @@ use Rattle.framing.proofs.Runs.{past_record}
 use Rattle.framing.proofs.FromPlace.{frame_given, ended_at, listed_from}
 
 -- where no SL stands, no record of a timetable goes on behind the tasks
-none_after : {s : Place} {m : Mark} {v : List ℕ} {t : Place} (rest : List ℕ) → 2 ≤ s.rank → (m ≡ SL → ⊥) → Allowed 1 s rest m → turns.After 1 s m v (goes_on t) → ⊥
+none_after : {s : Place} {m : Mark} {v : List ℕ} {t : Place} (rest : List ℕ) → 2 ≤ s.rank → (m ≡ SL → ⊥) → Allowed 1 s rest m →
+    turns.After 1 s m v (goes_on t) → ⊥
 none_after {s = s} rest behind other a (turns.past_head e) = omega (arith, due_turn s.rank (row TS).rank (omega arith) a.its_turn)
 none_after {s = s} rest behind other a turns.past_task = omega (arith, due_turn s.rank (row TK).rank (omega arith) a.its_turn)
 none_after rest behind other a (turns.past_later l e (turns.one_listed (inl is))) = other is

@@ -72,8 +72,8 @@ counted_behind : {s : Place} (bytes : List ℕ) (m : Mark) → 2 ≤ (row m).ran
 counted_behind {s = s} bytes m h p turn = p.behind_tasks (later_turn s.rank (row m).rank h turn).0
 
 -- a record that framing goes on behind leads to a place in the image
-pub placed_after : {kind : ℕ} {s : Place} {m : Mark} {v : List ℕ} {t : Place} (bytes : List ℕ) → Placed bytes s → front_mark (drop s.offset bytes) ≡ some m →
-    s.offset + size m ≤ length bytes → may_follow s.rank (row m).rank ≡ true → turns.After kind s m v (goes_on t) → Placed bytes t
+pub placed_after : {kind : ℕ} {s : Place} {m : Mark} {v : List ℕ} {t : Place} (bytes : List ℕ) → Placed bytes s →
+    front_mark (drop s.offset bytes) ≡ some m → s.offset + size m ≤ length bytes → may_follow s.rank (row m).rank ≡ true → turns.After kind s m v (goes_on t) → Placed bytes t
 placed_after {s = s} bytes p front whole turn (turns.past_head {v = v} e) =
     let first : s.rank ≡ 0 = due_turn s.rank (row TS).rank (omega arith) turn in
     let none_before = p.before_head first in

@@ -10,7 +10,6 @@ use Rattle.rules.specs.declared.Layout.{Layout}
 use Rattle.rules.specs.declared.Located.{Located}
 use Rattle.rules.specs.Refusals.{Judged, gives, refuses}
 use Rattle.rules.specs.Marks.{head_count_of, head_length_of}
-use Rattle.rules.specs.Framing.{start_place, frame_records}
 use Rattle.rules.specs.Located.{bare, RefusedAt}
 use Rattle.rules.proofs.Cases.{clash}
 use Rattle.rules.proofs.Locations.{refused_at, one_refused}

@@ -1,8 +1,5 @@
 -- `framing::after_end` meets its contract: EN's test, on the number that the rule book reads. Assumes nothing.
-use mathlib.Core.Path.{◌≡◌, ◌∙◌, ap}
-use lib.ListN.{drop}
-use Rattle.rules.specs.Priority.{slot}
-use Rattle.rules.specs.Marks.{EN, values}
+use mathlib.Core.Path.{◌∙◌, ap}
 use Rattle.images.specs.Bodies.{count_of}
 use Rattle.images.proofs.BodyLaws.{end_body_is}
 use Rattle.framing.proofs.RecordLaws.{bad_end, good_end}
@@ -10,18 +7,10 @@ use Rattle.framing.proofs.after_end.Goals as goal
 
 pub returns-then-number-s : goal.returns-then-number-s
 returns-then-number-s c =
-    let read : c.end_body-number.result ≡ slot (values EN (drop c.args.s.offset c.args.image.now)) 0 =
-    let a = c.args in
-    c.end_body-number.ensures
-    ∙ ap count_of c.part.ensures
-    ∙ end_body_is a.image.now a.s.offset c.requires.not_cut in
+    let read = c.end_body-number.ensures ∙ ap count_of c.part.ensures ∙ end_body_is c.args.image.now c.args.s.offset c.requires.not_cut in
     rw c.refuses.ensures (bad_end _ _ _ _ read c.if-number-s.true)
 
 pub returns : goal.returns
 returns c =
-    let read : c.end_body-number.result ≡ slot (values EN (drop c.args.s.offset c.args.image.now)) 0 =
-    let a = c.args in
-    c.end_body-number.ensures
-    ∙ ap count_of c.part.ensures
-    ∙ end_body_is a.image.now a.s.offset c.requires.not_cut in
+    let read = c.end_body-number.ensures ∙ ap count_of c.part.ensures ∙ end_body_is c.args.image.now c.args.s.offset c.requires.not_cut in
     good_end _ _ _ _ read c.if-number-s.false

@@ -1,5 +1,4 @@
 -- `framing::frame_from` meets its contract. The loop's invariant: framing comes to this place. The measure is the number of bytes left. Assumes nothing.
-use Prim.Native.Nat.{◌-◌}
 use native.Mathlib.Omega.{arith}
 use Rattle.framing.specs.Frames.{Steps}
 use Rattle.framing.proofs.StepLaws.{goes_further, reached, refused, followed, framed, in_front}

@@ -1,7 +1,6 @@
 -- `framing::frame_tasks` meets its contract. The loop's invariant: framing comes to this place, which is on the way to the one behind the tasks. The
 -- measure is the number of bytes left. Assumes nothing.
 use mathlib.Core.Path.{refl}
-use Prim.Native.Nat.{◌-◌}
 use native.Mathlib.Omega.{arith}
 use Rattle.framing.specs.Frames.{Steps}
 use Rattle.framing.proofs.PlaceLaws.{placed_at_start}

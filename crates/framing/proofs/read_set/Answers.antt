@@ -2,7 +2,6 @@
 -- The measure is the number of tasks left. Assumes nothing.
 use mathlib.Core.Path.{◌∙◌, ap, ap₂}
 use mathlib.Core.List.{List}
-use Prim.Native.Nat.{◌-◌}
 use native.Mathlib.Omega.{arith}
 use lib.ListN.{set}
 use Rattle.rules.specs.declared.Task.{Task}

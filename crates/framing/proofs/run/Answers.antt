@@ -1,7 +1,6 @@
 -- `framing::run` meets its contract. The loop's invariant: the records counted stand one behind the other and end here. The measure is the number of
 -- records that may still be counted. Assumes nothing.
 use mathlib.Core.Path.{sym, ◌∙◌}
-use Prim.Native.Nat.{◌-◌}
 use native.Mathlib.Omega.{arith}
 use Rattle.images.specs.Table.{mark_of}
 use Rattle.images.proofs.TableLaws.{stands_whole}
