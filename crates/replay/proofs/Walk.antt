@@ -11,7 +11,7 @@ use borrow.Author.Tests.{le-ltb}
 use Rattle.fields.specs.Body.{head₀, tail₀}
 use Rattle.rules.specs.declared.Task.{Task}
 use Rattle.rules.specs.declared.Entry.{Entry}
-use Rattle.rules.specs.Tasks.{Set, limits, task, jobs, all_jobs, hyperperiod, set_fault}
+use Rattle.rules.specs.Tasks.{Set, limits, jobs, all_jobs, hyperperiod, set_fault}
 use Rattle.rules.specs.Setting.{Tables}
 use Rattle.rules.specs.Priority.{slot, start_job, all_started, setting}
 use Rattle.rules.specs.Offsets.{Standing, lent, past_own, standing, next_is, next_start, first_offsets}
