@@ -87,9 +87,12 @@ module _ {ts : Set} {bytes : List ℕ} {kept : Rows} {count : Bool} {releases : 
       keeps : StartKeepsRules ts (hyperperiod ts) w.next free e.task e.start
       keeps = entry_keeps w.judged e is number q z
 
-      -- it is of a task, and no sum is large
+      -- it is of a task, which has a slot, and no sum is large
       pub entry_task : e.task < tasks_in kept
       entry_task = turn_task w.judged.here e keeps
+
+      pub entry_slot : e.task < 16
+      entry_slot = omega (arith, entry_task, w.judged.here.keeps.few)
 
       pub good_start : GoodStart kept releases e
       good_start = turn_good w.judged.here e keeps
@@ -126,5 +129,5 @@ module _ {ts : Set} {bytes : List ℕ} {kept : Rows} {count : Bool} {releases : 
           not_counted asked (inr t) = t.1 ∙ w.uncounted asked
 
           its_few : TurnCounted c' → FewSoFar (j + 1) c'
-          its_few (inl t) = rw t.5 (few_more w.few e.task (omega (arith, entry_task, w.judged.here.keeps.few)) t.1 t.2)
+          its_few (inl t) = rw t.5 (few_more w.few e.task entry_slot t.1 t.2)
           its_few (inr t) = rw t.1 (few_kept w.few)

@@ -28,7 +28,9 @@ whole_fits : (x : Interval) (next : ℤ) → x.end - x.begin < 2 ^ 32 → x.work
 whole_fits x next l k small = sfits_of (omega (arith, capacity_small x next))
 
 pub overflow_sub-result-2 : goal.overflow_sub-result-2
-overflow_sub-result-2 c = rw (exact (c.args.end - c.args.begin) c.args.work (omega arith) (omega arith)) (fits (c.args.end - c.args.begin) c.args.work (omega arith) (omega arith))
+overflow_sub-result-2 c =
+    let length = c.args.end - c.args.begin in
+    rw (exact length c.args.work (omega arith) (omega arith)) (fits length c.args.work (omega arith) (omega arith))
 
 pub overflow_add-result : goal.overflow_add-result
 overflow_add-result c =
