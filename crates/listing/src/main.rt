@@ -6,16 +6,17 @@
 ghost use Rattle.standard.specs.Calls.{Holds};
 
 use lines::ROOM;
-use standard::Input;
+use standard::{Input, Streams};
+use std::io::{Read, Write};
 use text::LONGEST_INPUT;
 
 // Reads standard input until it ends or the buffer is full.
-fn read_input(input: &mut [u8]) -> Input
+fn read_input<R: Read, W, E>(streams: &mut Streams<R, W, E>, input: &mut [u8]) -> Input
     ensures { Holds 0 result input.new }
 {
     let mut at: usize = 0;
     while at < input.len() {
-        match standard::read_behind(input, at) {
+        match standard::read_behind(streams, input, at) {
             Input::Held(n) => {
                 if n == at {
                     return Input::Held(at);
@@ -31,18 +32,19 @@ fn read_input(input: &mut [u8]) -> Input
 }
 
 // The listing of what was read.
-fn write_listing(input: &[u8]) {
+fn write_listing<R, W: Write, E: Write>(streams: &mut Streams<R, W, E>, input: &[u8]) {
     let mut text = [0u8; ROOM];
     let n = lines::list(input, &mut text);
-    if standard::write_text(&text[..n]) < n {
-        os::fail(b"listing: standard output");
+    if standard::write_text(streams, &text[..n]) < n {
+        standard::fail(streams, b"listing: standard output");
     }
 }
 
-fn main() {
+fn main(rt: HostRuntime) {
+    let mut streams = Streams::new(rt.stdin(), rt.stdout(), rt.stderr());
     let mut input = [0u8; LONGEST_INPUT + 1];
-    match read_input(&mut input) {
-        Input::Held(n) => write_listing(&input[..n]),
-        Input::Failed => os::fail(b"listing: standard input"),
+    match read_input(&mut streams, &mut input) {
+        Input::Held(n) => write_listing(&mut streams, &input[..n]),
+        Input::Failed => standard::fail(&mut streams, b"listing: standard input"),
     }
 }

@@ -8,7 +8,8 @@ ghost use Rattle.reporting.specs.Turns.{room};
 ghost use Rattle.report.specs.Stands.{Kept, Stands, CanRead, Reads, Passes, Drives};
 
 use reporting::{ROOM, TurnAnswer};
-use standard::Input;
+use standard::{Input, Streams};
+use std::io::{Read, Write};
 use text::LONGEST_INPUT;
 
 // Where the report stands: the bytes that are held lie in the buffer from `begin` to `end`; whether more can come; how many images there were.
@@ -41,7 +42,11 @@ fn keep(buffer: &mut [u8], begin: usize, end: usize)
 }
 
 // One read behind the bytes that are held. Where no more are held then, the input has ended.
-fn read_more(buffer: &mut [u8], s: Stand) -> Next
+fn read_more<R: Read, W, E: Write>(
+    streams: &mut Streams<R, W, E>,
+    buffer: &mut [u8],
+    s: Stand,
+) -> Next
     requires { CanRead s buffer.old }
     ensures { Reads s buffer.old result buffer.new }
 {
@@ -49,7 +54,7 @@ fn read_more(buffer: &mut [u8], s: Stand) -> Next
     let end = s.end;
     keep(buffer, begin, end);
     let held = end - begin;
-    match standard::read_behind(buffer, held) {
+    match standard::read_behind(streams, buffer, held) {
         Input::Held(n) => Next::On(Stand {
             begin: 0,
             end: n,
@@ -57,28 +62,33 @@ fn read_more(buffer: &mut [u8], s: Stand) -> Next
             images: s.images,
         }),
         Input::Failed => {
-            os::fail(b"report: standard input");
+            standard::fail(streams, b"report: standard input");
             Next::Ended
         }
     }
 }
 
 // Writes a text, and answers whether all of it was taken.
-fn write(text: &[u8]) -> bool {
-    if standard::write_text(text) < text.len() {
-        os::fail(b"report: standard output");
+fn write<R, W: Write, E: Write>(streams: &mut Streams<R, W, E>, text: &[u8]) -> bool {
+    if standard::write_text(streams, text) < text.len() {
+        standard::fail(streams, b"report: standard output");
         return false;
     }
     true
 }
 
 // An image's lines, and the bytes behind it.
-fn go_on(text: &[u8], s: Stand, used: usize) -> Next
+fn go_on<R, W: Write, E: Write>(
+    streams: &mut Streams<R, W, E>,
+    text: &[u8],
+    s: Stand,
+    used: usize,
+) -> Next
     requires inside { s.begin + used ≤ s.end }
     requires few { s.images < most_images }
     ensures { Passes s used result }
 {
-    if write(text) {
+    if write(streams, text) {
         return Next::On(Stand {
             begin: s.begin + used,
             end: s.end,
@@ -90,7 +100,12 @@ fn go_on(text: &[u8], s: Stand, used: usize) -> Next
 }
 
 // A turn over the bytes that are held.
-fn step(buffer: &mut [u8], text: &mut [u8], s: Stand) -> Next
+fn step<R: Read, W: Write, E: Write>(
+    streams: &mut Streams<R, W, E>,
+    buffer: &mut [u8],
+    text: &mut [u8],
+    s: Stand,
+) -> Next
     requires stands { Stands s buffer.old }
     requires room { room ≤ length text.old }
     ensures { Drives s buffer.old result buffer.new }
@@ -98,19 +113,20 @@ fn step(buffer: &mut [u8], text: &mut [u8], s: Stand) -> Next
     let begin = s.begin;
     let end = s.end;
     match reporting::turn(&buffer[begin..end], s.more, s.images, text) {
-        TurnAnswer::Waits => read_more(buffer, s),
+        TurnAnswer::Waits => read_more(streams, buffer, s),
         TurnAnswer::GoesOn(told) => {
             let many = told.text;
-            go_on(&text[..many], s, told.used)
+            go_on(streams, &text[..many], s, told.used)
         }
         TurnAnswer::Stops(many) => {
-            write(&text[..many]);
+            write(streams, &text[..many]);
             Next::Ended
         }
     }
 }
 
-fn main() {
+fn main(rt: HostRuntime) {
+    let mut streams = Streams::new(rt.stdin(), rt.stdout(), rt.stderr());
     let mut buffer = [0u8; LONGEST_INPUT + 1];
     let mut text = [0u8; ROOM];
     let mut s = Stand {
@@ -120,7 +136,7 @@ fn main() {
         images: 0,
     };
     loop {
-        match step(&mut buffer, &mut text, s) {
+        match step(&mut streams, &mut buffer, &mut text, s) {
             Next::On(next) => {
                 s = next;
             }

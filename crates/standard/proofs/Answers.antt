@@ -1,23 +1,18 @@
 -- What the answer of a call and errno come to, as the machine has them, and what follows from what a call came to. Assumes nothing.
-use mathlib.Core.Path.{◌≡◌, refl, sym, ◌∙◌, ap}
-use mathlib.Core.Bool.{Bool, true, false}
-use mathlib.Core.List.{List}
-use Prim.Native.Nat.{ℕ, ◌+◌, ◌≤◌}
-use native.Mathlib.Omega.{arith}
+use Rattle.std.specs.Prelude.{◌≡◌, refl, Bool, true, false, List, ℕ, ◌+◌, ◌≤◌, ℤ, pos, negsuc, nat_abs, length, T, Result, Ok, Err, IfOk}
+use Rattle.std.specs.declared.io.Error.{Error}
+use Rattle.std.proofs.Common.{arith, sym, ◌∙◌, ap}
 use borrow.Author.Tests.{leb-false, ne_eqb}
-use lib.Dec.{T}
-use lib.IntN.{ℤ, pos, negsuc, nat_abs}
-use lib.ListN.{length}
 use lib.Signed.{le_z, non_neg}
 use mir.Syntax.{w32, w64}
 use mir.Val.{Fits, SFits, to_z, of_z}
 use mir.Facts.{to_z-of_z}
-use Rattle.libc.specs.Io.{Moved}
 use Rattle.standard.specs.declared.Call.{Call}
 use Rattle.standard.specs.declared.Call.TheVariants as call_case
 use Rattle.standard.specs.declared.Input.{Input}
 use Rattle.standard.specs.declared.Input.TheVariants as input_case
-use Rattle.standard.specs.Calls.{interruption, not_made, call_of, Moves, Holds}
+use Rattle.standard.specs.Calls.{interruption, not_made, call_of, is_interrupted, made_of, Moves, Holds}
+use Rattle.std.specs.IoError.{error_kind}
 
 -- an answer that is not below 0 is a count
 pub count_fits : (got : ℤ) → SFits w64 got → le_z (pos 0) got ≡ true → T (non_neg got) × Fits w64 (nat_abs got)
@@ -47,14 +42,13 @@ none_moves at true bytes = tt
 none_moves at false bytes = tt
 
 -- what a call moved lies behind the place that it was lent from
-inside : (at rest : ℕ) (got error : ℤ) (bytes : List ℕ) → at + rest ≡ length bytes → Moved rest got → Moves at (call_of got error) bytes
-inside at rest (pos n) error bytes e m = omega arith
-inside at rest (negsuc k) error bytes e m = none_moves at (interruption error) bytes
+inside : (at rest : ℕ) (got : Result ℕ Error) (bytes : List ℕ) → at + rest ≡ length bytes → IfOk got (λ n. n ≤ rest) → Moves at (made_of got) bytes
+inside at rest (Ok n) bytes e m = omega arith
+inside at rest (Err error) bytes e m = none_moves at (is_interrupted (error_kind error)) bytes
 
--- its answer read back from its bits
-pub moves : (at rest : ℕ) (got error : ℤ) (bytes : List ℕ) {r : Call} → SFits w64 got → at + rest ≡ length bytes → Moved rest got →
-    r ≡ call_of (to_z w64 (of_z w64 got)) error → Moves at r bytes
-moves at rest got error bytes f e m is = rw (is, to_z-of_z f) (inside at rest got error bytes e m)
+pub moves : (at rest : ℕ) (got : Result ℕ Error) (bytes : List ℕ) {r : Call} → at + rest ≡ length bytes → IfOk got (λ n. n ≤ rest) →
+    r ≡ made_of got → Moves at r bytes
+moves at rest got bytes e m is = rw is (inside at rest got bytes e m)
 
 -- and where it moved bytes, they are within
 pub moved_inside : (at : ℕ) {n : ℕ} {r : Call} (bytes : List ℕ) → r ≡ call_case.Moved n → Moves at r bytes → at + n ≤ length bytes

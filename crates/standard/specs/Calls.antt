@@ -1,5 +1,9 @@
 -- What a call of read or write came to, and what reading leaves in the buffer. Which bytes were read no contract can say. Assumes nothing.
-use Rattle.std.specs.Prelude.{◌≡◌, List, Bool, true, false, ℕ, ◌+◌, ◌≤◌, eqb, ℤ, pos, negsuc, length, take}
+use Rattle.std.specs.Prelude.{◌≡◌, List, Bool, true, false, ℕ, ◌+◌, ◌≤◌, eqb, ℤ, pos, negsuc, length, take, Result, Ok, Err}
+use Rattle.std.specs.IoError.{error_kind, os_error_kind}
+use Rattle.std.specs.declared.io.Error.{Error}
+use Rattle.std.specs.declared.io.ErrorKind.{ErrorKind}
+use Rattle.std.specs.declared.io.ErrorKind.TheVariants.{Interrupted}
 use Rattle.standard.specs.declared.Call.{Call}
 use Rattle.standard.specs.declared.Call.TheVariants as call_case
 use Rattle.standard.specs.declared.Input.{Input}
@@ -19,6 +23,21 @@ not_made false = call_case.Failed
 abbrev pub call_of : ℤ → ℤ → Call
 call_of (pos n) error = call_case.Moved n
 call_of (negsuc k) error = not_made (interruption error)
+
+-- the kind of an error of a call that a signal interrupted
+abbrev pub is_interrupted : ErrorKind → Bool
+is_interrupted Interrupted = true
+is_interrupted _ = false
+
+-- what a call of std's came to, by its answer, and by the kind of its error where it has none
+abbrev pub made_of : Result ℕ Error → Call
+made_of (Ok n) = call_case.Moved n
+made_of (Err e) = not_made (is_interrupted (error_kind e))
+
+-- that is what the call came to by its answer and errno, where the error's kind is what std takes errno for
+abbrev pub AsErrno : Result ℕ Error → Call → Type 0
+AsErrno (Ok n) r = (error : ℤ) → r ≡ call_of (pos n) error
+AsErrno (Err e) r = (error : ℤ) → error_kind e ≡ os_error_kind error → r ≡ call_of (negsuc 0) error
 
 -- the bytes that a call moved lie within a buffer behind a place
 abbrev pub Moves : ℕ → Call → List ℕ → Type 0
