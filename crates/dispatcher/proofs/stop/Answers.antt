@@ -2,15 +2,11 @@
 use mathlib.Core.Path.{refl}
 use Rattle.rules.specs.Dispatcher.{stopped}
 use Rattle.numbers.proofs.StateNumbers.{state_of_numbers}
-use Rattle.dispatcher.proofs.stop.Statement.{statement}
-use Rattle.dispatcher.proofs.stop.Tie as tie
+use Rattle.dispatcher.proofs.stop.Goals as goal
 
-returns : tie.Need-returns
+pub returns : goal.returns
 returns c = record {
   its_answer = refl;
   its_numbers = refl;
   its_state = state_of_numbers stopped (record { tasks = refl; next = refl; now = refl; first = refl });
 }
-
-pub stop-spec : {M : Type 1} → statement M
-stop-spec = tie.close (tie.spec returns)
