@@ -103,7 +103,7 @@ pub extern "C" fn hv_derive(
 ) -> u32
     ensures { Derived image.now out.old length.old result location.new length.new out.new }
 {
-    told_make(deriving::derive(image, out), location, length)
+    told_make(derivation::derive(image, out), location, length)
 }
 
 #[unsafe(no_mangle)]

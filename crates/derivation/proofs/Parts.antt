@@ -9,7 +9,7 @@ use lib.ListN.{length, get_or, set, length-append}
 use lib.Seq.{get_or-set_same, get_or-set_other}
 use Rattle.rules.proofs.Cases.{by_eq}
 use Rattle.writing.specs.Writing.{put_at}
-use Rattle.deriving.specs.Parts.{joined, puts, Apart, LeftToPut, sum_first}
+use Rattle.derivation.specs.Parts.{joined, puts, Apart, LeftToPut, sum_first}
 use Rattle.writing.proofs.Puts.{put_none, put_length, put_next, put_apart}
 
 -- numbers that each slot up to i is to hold, with one slot more

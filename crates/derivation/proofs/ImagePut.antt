@@ -13,7 +13,7 @@ use Rattle.rules.specs.Image.{Record, record_of, image, records, head_records, e
 use Rattle.rules.proofs.Images.{records_length, both_lengths, records_before}
 use Rattle.writing.specs.Writing.{put_at, record_put}
 use Rattle.writing.proofs.ImagePut.{image_put}
-use Rattle.deriving.specs.Parts.{tables_bytes}
+use Rattle.derivation.specs.Parts.{tables_bytes}
 
 -- how long tables are
 pub tables_length : (idles : List Idle) (p : List Inversion) → length (tables_bytes idles p) ≡ length idles * size ID + length p * size PV

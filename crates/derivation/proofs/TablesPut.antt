@@ -14,8 +14,8 @@ use Rattle.rules.proofs.Cases.{by_nat}
 use Rattle.rules.proofs.Framed.{written_length}
 use Rattle.rules.proofs.Images.{image_append, records_length}
 use Rattle.writing.specs.Writing.{put_at, record_put}
-use Rattle.deriving.specs.Parts.{joined, LeftToPut, idles_bytes, inversions_bytes, parts_of, places_of, sum_first, tables_bytes}
-use Rattle.deriving.proofs.Parts.{puts_same, rest_left, none_left, last_length, line_apart, one_put}
+use Rattle.derivation.specs.Parts.{joined, LeftToPut, idles_bytes, inversions_bytes, parts_of, places_of, sum_first, tables_bytes}
+use Rattle.derivation.proofs.Parts.{puts_same, rest_left, none_left, last_length, line_apart, one_put}
 
 module _ {n : ℕ} {whole : List ℕ} (idle_at : ℕ) (offsets out : List ℕ) where
   -- an idle put at its place

@@ -15,7 +15,7 @@ use Rattle.timetables.specs.declared.Counts.{Counts}
 use Rattle.timetables.specs.Judged.{entries_behind, EntriesValid}
 use Rattle.timetables.specs.Counted.{Counted}
 use Rattle.timetables.specs.Instants.{instant_of, idles_before, inverts}
-use Rattle.deriving.specs.Parts.{sum_first, tables_bytes}
+use Rattle.derivation.specs.Parts.{sum_first, tables_bytes}
 
 -- no more counted than a cycle has ticks
 pub record FewCounted (n : ℕ) (c : Counts) : Type 0 where

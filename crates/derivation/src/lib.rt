@@ -7,7 +7,7 @@ ghost use Rattle.rules.specs.Tasks.{Set};
 ghost use Rattle.rules.specs.Marks.{ID, PV, size};
 ghost use Rattle.rules.specs.Operations.{Derives};
 ghost use Rattle.timetables.specs.Instants.{idles_before, inverts};
-ghost use Rattle.deriving.specs.Putting.{FewCounted, PartsBegin, IdlePut, InversionPut, tables_put, tables_behind, CanPut};
+ghost use Rattle.derivation.specs.Putting.{FewCounted, PartsBegin, IdlePut, InversionPut, tables_put, tables_behind, CanPut};
 
 use images::{END_SIZE, ENTRY_SIZE, IDLE_SIZE, INVERSION_SIZE};
 use rules::{Entry, Idle, Inversion, MakeAnswer, TOO_LONG};

@@ -24,9 +24,9 @@ use Rattle.timetables.specs.declared.Timetable.{Timetable}
 use Rattle.timetables.specs.declared.Counts.{Counts}
 use Rattle.timetables.specs.Judged.{entries_behind, Good, JudgedAs, EntriesValid}
 use Rattle.timetables.specs.Counted.{Counted}
-use Rattle.deriving.specs.Putting.{tables_put, CanPut}
-use Rattle.deriving.proofs.ImagePut.{table_put}
-use Rattle.deriving.proofs.ValidEntries.{few_idles, few_inversions}
+use Rattle.derivation.specs.Putting.{tables_put, CanPut}
+use Rattle.derivation.proofs.ImagePut.{table_put}
+use Rattle.derivation.proofs.ValidEntries.{few_idles, few_inversions}
 
 -- what an image is refused with is answered, and the output is as it was
 pub refused_so : {bytes : List ℕ} {kept : Rows} {t : Timetable} (old : List ℕ) → JudgedAs bytes true t kept → (t.refusal.number ≡ 0 → ⊥) →

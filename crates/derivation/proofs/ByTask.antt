@@ -17,7 +17,7 @@ use Rattle.rules.proofs.Pairs.{at_most_lt, at_most_le}
 use Rattle.rules.proofs.PriorityLaws.{slot_start_same, slot_start_other, keeps_rules}
 use Rattle.timetables.specs.Counted.{task_inversions}
 use Rattle.timetables.proofs.OwnInversions.{other_task, regular, inverted}
-use Rattle.deriving.specs.Parts.{joined}
+use Rattle.derivation.specs.Parts.{joined}
 
 module _ {A : Type 0} where
   -- parts that are the same one by one are the same together

@@ -14,7 +14,7 @@ use Rattle.sets.proofs.SetKept.{kept_good}
 use Rattle.timetables.specs.Judged.{entries_behind, EntriesValid}
 use Rattle.timetables.specs.Counted.{task_inversions}
 use Rattle.timetables.proofs.ValidTurns.{no_set_fault, all_valid}
-use Rattle.deriving.proofs.ByTask.{own_few}
+use Rattle.derivation.proofs.ByTask.{own_few}
 
 module _ {ts : Set} {bytes : List ℕ} {kept : Rows} {listed : ℕ} (v : EntriesValid ts bytes kept listed) where
   abbrev τ : List Entry

@@ -30,13 +30,13 @@ use Rattle.timetables.specs.Counted.{task_inversions}
 use Rattle.timetables.proofs.EntriesRead.{no_entry_left}
 use Rattle.timetables.proofs.Counting.{zero_slot}
 use Rattle.timetables.proofs.Turns.{AtEntry, free_after, releases_after, turn_idle, turn_no_idle, turn_inverted, turn_others, turn_regular}
-use Rattle.deriving.specs.Parts.{joined, LeftToPut, inversions_bytes, parts_of, places_of, tables_bytes}
-use Rattle.deriving.specs.Putting.{FewCounted, PartsBegin, idle_from, inversion_by, PutWhere, IdlePut, InversionPut, tables_put, tables_behind, CanPut}
-use Rattle.deriving.proofs.ByTask.{inversions_by_task}
-use Rattle.deriving.proofs.TablesPut.{idle_put, inversion_put, same_left, all_put, all_left}
-use Rattle.deriving.proofs.ImagePut.{tables_length}
+use Rattle.derivation.specs.Parts.{joined, LeftToPut, inversions_bytes, parts_of, places_of, tables_bytes}
+use Rattle.derivation.specs.Putting.{FewCounted, PartsBegin, idle_from, inversion_by, PutWhere, IdlePut, InversionPut, tables_put, tables_behind, CanPut}
+use Rattle.derivation.proofs.ByTask.{inversions_by_task}
+use Rattle.derivation.proofs.TablesPut.{idle_put, inversion_put, same_left, all_put, all_left}
+use Rattle.derivation.proofs.ImagePut.{tables_length}
 use Rattle.timetables.proofs.ValidTurns.{ValidAt, first_left, entry_keeps, entry_task, entry_next, all_valid, first_valid}
-use Rattle.deriving.proofs.ValidEntries.{few_idles, few_own}
+use Rattle.derivation.proofs.ValidEntries.{few_idles, few_own}
 
 -- where there is no record all stays as it was
 pub none_put : {is : Bool} {m : Mark} {values out : List ℕ} {place : ℕ} → is ≡ false → PutWhere is m values out place out place
