@@ -9,7 +9,7 @@ use lib.Seq.{take-suc, get_or-set_same, get_or-set_other}
 use Rattle.rules.specs.declared.Task.{Task}
 use Rattle.rules.specs.declared.TaskSet.{TaskSet}
 use Rattle.rules.specs.declared.Entry.{Entry}
-use Rattle.rules.specs.Tasks.{Set, limits, task}
+use Rattle.rules.specs.Tasks.{Set, limits}
 use Rattle.rules.specs.Timetable.{entry_at, count, job_at, end_at}
 use Rattle.rules.specs.Marks.{TS, SL, size, body_length, head_length_of}
 use Rattle.rules.specs.Promised.{TimetableImage}

@@ -1,13 +1,13 @@
 -- How long a listing is: a line of a valid timetable has at most 20 bytes, its whole listing at most 81,928. Assumes nothing.
 use mathlib.Core.Path.{◌≡◌}
 use mathlib.Core.List.{List, [], ◌∷◌, ◌++◌}
-use Prim.Native.Nat.{ℕ, zero, suc, ◌+◌, ◌*◌, ◌≤◌, ◌<◌}
+use Prim.Native.Nat.{ℕ, zero, suc, ◌*◌, ◌≤◌, ◌<◌}
 use native.Mathlib.Omega.{arith}
 use lib.Dec.{eqb}
 use lib.ListN.{length, take, length-append}
 use lib.Seq.{length-take-le}
 use Rattle.rules.specs.declared.Entry.{Entry}
-use Rattle.rules.specs.Tasks.{Set, limits, task, jobs, GoodSet}
+use Rattle.rules.specs.Tasks.{Set, limits, task, GoodSet}
 use Rattle.rules.specs.Timetable.{entry_at, count, job_at, end_at, ValidTimetable}
 use Rattle.rules.proofs.Cases.{by_bool, by_le}
 use Rattle.rules.proofs.GoodSets.{good_rules}
