@@ -38,7 +38,7 @@ pub fn take(k: Intake, buffer: &mut [u8], fragment: &[u8]) -> Intake
             if buffer.len() - count < fragment.len() {
                 return Intake::Shut;
             }
-            bytes::copy(fragment, &mut buffer[count..]);
+            buffer[count..count + fragment.len()].copy_from_slice(fragment);
             Intake::Open(count + fragment.len())
         }
     }
