@@ -1,35 +1,82 @@
-#!/bin/sh
-# Reads every must-fail edit beside the log that the prover left of it, and demands slip by slip that it was refused for what it breaks: at the proof that
-# the slip names, by a fact that does not hold, and not because the proof no longer has the shape of the code. Run behind rt ci or rt must-fail.
+#!/usr/bin/env bash
+# Tries every must-fail edit, or those that are named (edits.sh crates/fields/must-fail/round_1.edit), in a copy of the repository, and demands slip by slip that
+# it is refused for what it breaks: at the proof that the slip names, by a fact that does not hold, and not because the proof no longer has the shape of the
+# code. rt ci tries each edit as well, but tells only the first line of a refusal. What rt check says of each stays in target/must-fail/CRATE/EDIT.log.
+# Run it behind rt all check: without what that keeps, each copy proves all that its crate uses.
 #
 # An edit holds slips, each behind a comment line of the form
 #     # NAME, WHERE: what it breaks
 # WHERE is the function whose proof has to fail or, in rules, the file of proofs/ with the law that does.
-set -eu
+set -eu -o pipefail
 cd "$(dirname "$0")/.."
+test $# -gt 0 || set -- crates/*/must-fail/*.edit
+work=$(mktemp -d)
+trap 'rm -rf "$work"' EXIT
+
+crate_of() {
+    local crate=${1#crates/}
+    echo "${crate%%/*}"
+}
+
+log_of() {
+    echo "target/must-fail/$(crate_of "$1")/$(basename "$1" .edit).log"
+}
+
+# The names of a crate's goals and steps, without an edit.
+list_names() {
+    (cd "crates/$1" && rt names "$2/names/$1") >"$2/names-$1.log" 2>&1 || { cat "$2/names-$1.log"; return 1; }
+}
+
+# Checks the crate of the edit $1 with it in a copy of the repository below $2. The last line of the log is the status.
+try_edit() {
+    local crate copy log status=0
+    crate=$(crate_of "$1")
+    copy=$2/$crate-$(basename "$1" .edit)
+    log=$PWD/$(log_of "$1")
+    mkdir -p "$(dirname "$log")"
+    rm -f "$log"
+    {
+        tests/edited.py copy . "$crate" "$copy"
+        tests/edited.py apply "$1" "$copy/crates/$crate"
+        if grep -q '^src/' "$copy/touched"; then
+            (cd "$copy/crates/$crate" && rt names "$copy/after")
+            tests/edited.py names "$2/names/$crate" "$copy/after" "$copy/crates/$crate"
+        fi
+        (cd "$copy/crates/$crate" && rt check --jobs 1) || status=$?
+        echo "ended with $status"
+    } >"$log" 2>&1
+    rm -rf "$copy"
+}
+export -f crate_of log_of list_names try_edit
+
+# As many at once as there are processors, and 3 GB of memory for each.
+lanes=$(awk -v most="$(nproc)" '/^MemAvailable:/ { n = int($2 / 3000000) } END { print n < 1 ? 1 : n < most ? n : most }' /proc/meminfo)
+for edit in "$@"; do crate_of "$edit"; done | sort -u | xargs -P "$lanes" -I '{}' bash -eu -c 'list_names "$@"' - '{}' "$work" ||
+    { echo "edits.sh: a crate does not read without an edit"; exit 1; }
+# An edit that cannot be tried has no status in its log, which is told below.
+printf '%s\n' "$@" | xargs -P "$lanes" -I '{}' bash -eu -c 'try_edit "$@"' - '{}' "$work" || true
 
 # Each edit beside its log: a line for each slip that was refused so, and one for all else that is to be said.
 read_edits() {
-    for edit in crates/*/must-fail/*.edit; do
-        read_one "$edit"
+    for edit in "$@"; do
+        log=$(log_of "$edit")
+        if test "$(tail -n 1 "$log" 2>/dev/null)" = "ended with 1" && grep -q '^logic=not-proved' "$log"; then
+            read_one "$edit" "$log"
+        else
+            echo "$edit: the check came to no refusal: $log"
+        fi
     done
     echo "all read"
 }
 
 read_one() {
-    edit=$1
-    crate=${edit#crates/}
-    crate=${crate%%/*}
-    log=target/must-fail/$crate/$(basename "$edit" .edit)/.log
-    test -f "$log" || { echo "$edit: no log at $log"; return; }
-    awk -v edit="$edit" '
+    awk -v edit="$1" '
         function fail(what) { print edit ": " what }
 
-        # Whether an error says that a proof has not the shape of the code, or only follows from another error. NAME-spec puts the needs of a function
-        # together; the names of tie and Lts are places in its code.
+        # Whether an error says that a proof has not the shape of the code, or only follows from another error. The names of Lts are places in the code.
         function of_shape(text) {
-            return text ~ /^`[^`]*-spec`: |was not admitted|in scope|no field|syntax error|components, but|that can be named from here/ ||
-                text ~ /expected type `tie\.|where one has `[^ `]*\.Lts\.[A-Z][^ `]*`/
+            return text ~ /was not admitted|in scope|no field|is no name|that can be named|syntax error|operand is missing|expected the end|cannot continue/ ||
+                text ~ /components, but|where one has `[^ `]*\.Lts\.[A-Z][^ `]*`/
         }
 
         FNR == NR {
@@ -45,35 +92,49 @@ read_one() {
             next
         }
 
-        / error: / {
-            path = $0
-            sub(/:[0-9]+:[0-9]+: error: .*/, "", path)
-            sub(/^.*\/(proofs|src)\//, "", path)
-            sub(/(\/[A-Za-z]+)?\.antt$/, "", path)
-            sub(/^.*:[0-9]+:[0-9]+: error: /, "")
-            said = $0
-            # What a record lacks stands on the next line where its name is long.
-            if (said ~ /: record `[^`]*`$/ && (getline behind) > 0) said = said behind
-            if (!of_shape(said)) facts[path]++
+        # The function or the file of proofs/ that an error stands at. What is wrong may go on in the next line.
+        function told() {
+            if (path != "" && of_shape(said)) shapes[path]++
+            else if (path != "") facts[path]++
+            path = ""
         }
-        # A function without a proof file, which search alone proves.
-        /^fn .*: no proof: .*`search` does not close/ {
-            sub(/: no proof: .*/, "")
-            sub(/^.*::/, "")
-            facts[$0]++
+        {
+            if (/^  /) said = said $0
+            told()
+        }
+        / error: / {
+            path = said = $0
+            sub(/:[0-9]+:[0-9]+: error: .*/, "", path)
+            sub(/\/(Answers|Invariants|Proof)\.antt$/, "", path)
+            sub(/\.antt$/, "", path)
+            sub(/^.*\//, "", path)
+            sub(/^.*:[0-9]+:[0-9]+: error: /, "", said)
+        }
+
+        # A goal that has no answer: search alone proves it, and does not prove it with the edit. Goals that are told of stand before their function. Where the edit
+        # makes other goals, or a proof names what is not there, it may be one that search never proved.
+        /^other shape: / { shapes[$3]++ }
+        /^note: src\/[^ ]*: it is not proved that / { open++ }
+        /^(fn|struct|impl) / {
+            item = $2
+            sub(/:$/, "", item)
+            sub(/^.*::/, "", item)
+            if (/: (not proved|no proof)/ && open || /: no proof: .*`search` did not prove/) goals[item]++
+            open = 0
         }
 
         END {
+            told()
             if (!count) fail("no slip in it")
             for (i = 1; i <= count; i++) {
                 if (!pairs[i]) fail("no pair behind " name[i])
-                if (!facts[where[i]]) fail(name[i] ": no fact fails at " where[i])
+                if (!facts[where[i]] && (!goals[where[i]] || shapes[where[i]])) fail(name[i] ": no fact fails at " where[i])
                 else print "refused " name[i]
             }
-        }' "$edit" "$log"
+        }' "$1" "$2"
 }
 
-read_edits | awk '
+read_edits "$@" | awk '
     /^refused / { refused++; next }
     /^all read$/ { all = 1; next }
     { print; failed = 1 }
