@@ -8,7 +8,7 @@ usage: tests/edited.py copy ROOT CRATE COPY            what a check reads of eve
 The last is there because names say which test a goal stands behind: `returns-then-bytes-at-ge4` is gone where a slip makes `4 <` of `4 <=`, and its proof would
 be refused for a name, whatever the slip means. `rt names` lists each name beside one that goes by order alone, which such a slip leaves as it was; BEFORE and AFTER
 are what it lists of the crate without and with the edit. The proofs of the copy are spelled anew by them, so that each is tried at the goal that stands in its
-place. Where a slip changes the order too, the names stay as they are, and a line `other shape: F` is printed.
+place. Where a slip changes the order too, the names stay as they are, and a line `new goal: F G` is printed for each goal whose name the function had not.
 """
 
 import json
@@ -18,7 +18,7 @@ import shutil
 import sys
 
 PARTS = ("src", "specs", "proofs")
-TOKEN = re.compile(r"[\w'-]+")
+TOKEN = re.compile(r"[\w'+-]+")
 
 
 def read(path):
@@ -80,8 +80,19 @@ def by_order(function):
     """What a proof can name of a function, in order: what it is, its name by order, and the name that proofs write."""
     names = [("goal", old, new) for old, new in function["needs"]]
     for (old, _, (step, written), _, _), place in zip(function["places"], function["places_by_name"]):
-        names += [("place", old, place), ("step", step, written)]
+        names += [("place", old, place), ("place", old.lower(), place[:1].lower() + place[1:]), ("step", step, written)]
     return names
+
+
+def respelled(text, turned):
+    """The text with other names. One of a place that several ways lead to is made of theirs: `then-a-via-else-a+then-b`."""
+
+    def one(name):
+        if name in turned or "-via-" not in name:
+            return turned.get(name, name)
+        return "-via-".join("+".join(turned.get(it, it) for it in part.split("+")) for part in name.split("-via-"))
+
+    return TOKEN.sub(lambda it: one(it[0]), text)
 
 
 def names(before, after, folder):
@@ -90,14 +101,14 @@ def names(before, after, folder):
         was, now = by_order(before[module]), by_order(after[module])
         function = module[: -len(".Lts")].partition(".")[2]
         if [it[:2] for it in was] != [it[:2] for it in now]:
-            print(f"other shape: {function.rpartition('.')[2]}")
+            for goal in {new for _, new in after[module]["needs"]} - {new for _, new in before[module]["needs"]}:
+                print(f"new goal: {function.rpartition('.')[2]} {goal}")
             continue
         turned = {old: new for (_, _, old), (_, _, new) in zip(was, now) if old != new}
         proofs = f"{folder}/proofs/{function.replace('.', '/')}"
         if turned and os.path.isdir(proofs):
             for name in sorted(it for it in os.listdir(proofs) if it.endswith(".antt")):
-                text = read(f"{proofs}/{name}")
-                write(f"{proofs}/{name}", TOKEN.sub(lambda it: turned.get(it[0], it[0]), text))
+                write(f"{proofs}/{name}", respelled(read(f"{proofs}/{name}"), turned))
 
 
 if __name__ == "__main__":

@@ -94,8 +94,7 @@ read_one() {
 
         # The function or the file of proofs/ that an error stands at. What is wrong may go on in the next line.
         function told() {
-            if (path != "" && of_shape(said)) shapes[path]++
-            else if (path != "") facts[path]++
+            if (path != "" && !of_shape(said)) facts[path]++
             path = ""
         }
         {
@@ -111,16 +110,17 @@ read_one() {
             sub(/^.*:[0-9]+:[0-9]+: error: /, "", said)
         }
 
-        # A goal that has no answer: search alone proves it, and does not prove it with the edit. Goals that are told of stand before their function. Where the edit
-        # makes other goals, or a proof names what is not there, it may be one that search never proved.
-        /^other shape: / { shapes[$3]++ }
-        /^note: src\/[^ ]*: it is not proved that / { open++ }
+        # A goal without an answer stands before its function: search alone proves it, and does not prove it with the edit. One that the function had not without
+        # the edit tells nothing, nor one at which search came to a limit.
+        /^new goal: / { added[$3, $4] }
+        /^note: src\/[^ ]*: it is not proved that / && (/allow values at which this goal is false/ || !/gave up/) && match($0, /\(`[^`]+`\)/) {
+            open[++opened] = substr($0, RSTART + 2, RLENGTH - 4)
+        }
         /^(fn|struct|impl) / {
             item = $2
             sub(/:$/, "", item)
             sub(/^.*::/, "", item)
-            if (/: (not proved|no proof)/ && open || /: no proof: .*`search` did not prove/) goals[item]++
-            open = 0
+            for (; opened; opened--) if (!((item, open[opened]) in added)) facts[item]++
         }
 
         END {
@@ -128,7 +128,7 @@ read_one() {
             if (!count) fail("no slip in it")
             for (i = 1; i <= count; i++) {
                 if (!pairs[i]) fail("no pair behind " name[i])
-                if (!facts[where[i]] && (!goals[where[i]] || shapes[where[i]])) fail(name[i] ": no fact fails at " where[i])
+                if (!facts[where[i]]) fail(name[i] ": no fact fails at " where[i])
                 else print "refused " name[i]
             }
         }' "$1" "$2"
