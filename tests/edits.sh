@@ -75,7 +75,8 @@ read_one() {
 
         # Whether an error says that a proof has not the shape of the code, or only follows from another error. The names of Lts are places in the code.
         function of_shape(text) {
-            return text ~ /was not admitted|in scope|no field|is no name|that can be named|syntax error|operand is missing|expected the end|cannot continue/ ||
+            return text ~ /^[0-9]+ declarations? that depends? on |was not admitted|in scope|no field|is no name|that can be named/ ||
+                text ~ /syntax error|operand is missing|expected the end|cannot continue/ ||
                 text ~ /components, but|where one has `[^ `]*\.Lts\.[A-Z][^ `]*`/
         }
 
