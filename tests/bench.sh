@@ -18,7 +18,8 @@
 set -eu
 
 tests=$(cd "$(dirname "$0")" && pwd)
-archive=${HV_ARCHIVE:-$tests/../target/staticlib/libhervantyu.a}
+. "$tests/made.sh"
+archive=${HV_ARCHIVE:-$(made_archive "$tests/..")}
 test -f "$archive" || { echo "no archive at $archive" >&2; exit 1; }
 . "$tests/host.sh"
 built=$(mktemp -d)
@@ -44,7 +45,7 @@ executed() {
 
 # Makes the line of $1 images, and demands that the report program and the one written for speed write the same lines for it.
 make_line() {
-    report=$tests/../target/bin/report
+    report=$(made_program "$tests/.." report)
     test -f "$report" || { echo "no program at $report" >&2; exit 1; }
     run "$built/bench" line "$1" >"$built/line"
     run "$report" <"$built/line" >"$built/lines"

@@ -49,8 +49,8 @@ try_edit() {
 }
 export -f crate_of log_of list_names try_edit
 
-# As many at once as there are processors, and 3 GB of memory for each.
-lanes=$(awk -v most="$(nproc)" '/^MemAvailable:/ { n = int($2 / 3000000) } END { print n < 1 ? 1 : n < most ? n : most }' /proc/meminfo)
+. tests/made.sh
+lanes=$(checks_at_once)
 for edit in "$@"; do crate_of "$edit"; done | sort -u | xargs -P "$lanes" -I '{}' bash -eu -c 'list_names "$@"' - '{}' "$work" ||
     { echo "edits.sh: a crate does not read without an edit"; exit 1; }
 # An edit that cannot be tried has no status in its log, which is told below.

@@ -10,6 +10,7 @@ set -eu
 
 tests=$(cd "$(dirname "$0")" && pwd)
 . "$tests/host.sh"
+. "$tests/made.sh"
 . "$tests/../targets/tools.sh"
 built=$(mktemp -d)
 trap 'rm -rf "$built"' EXIT
@@ -27,7 +28,7 @@ archive_of() {
     if test -n "${HV_ARCHIVE:-}"; then
         echo "$HV_ARCHIVE"
     elif test "$1" = x86-64; then
-        echo "$tests/../target/staticlib/libhervantyu.a"
+        made_archive "$tests/.."
     else
         echo "$tests/../target/$1/libhervantyu.a"
     fi

@@ -1,8 +1,9 @@
 # Sourced by the scripts that test a program which reads standard input, with the script's own arguments: they set name, the program's, and folder, where its
 # stored cases are. The program is the repository's own, or a command of this host that is named. Counts cases and those that differ.
 
+. "$folder/../made.sh"
 named=${1:-}
-program=${1:-$folder/../../target/bin/$name}
+program=${1:-$(made_program "$folder/../.." "$name")}
 test -f "$program" || { echo "no program at $program" >&2; exit 1; }
 samples=$folder/../../samples
 tests=$(cd "$folder/.." && pwd)

@@ -8,7 +8,8 @@
 set -eu
 
 tests=$(cd "$(dirname "$0")" && pwd)
-archive=${HV_ARCHIVE:-$tests/../target/staticlib/libhervantyu.a}
+. "$tests/made.sh"
+archive=${HV_ARCHIVE:-$(made_archive "$tests/..")}
 test -f "$archive" || { echo "no archive at $archive" >&2; exit 1; }
 . "$tests/host.sh"
 built=$(mktemp -d)

@@ -189,8 +189,8 @@ names="cortex-m4 aarch64-linux"
 test "$mode" = gate || names=$(target_names)
 for name in $names; do
     test -f "$root/target/$name/libhervantyu.a" || fail "no archive for $name: ./build-for $name makes it"
-    test "$(sha256sum <"$root/target/staticlib/libhervantyu.a")" = "$(cat "$root/target/$name/beside")" ||
-        fail "the archive for $name was made beside another one for x86-64 than stands in target/staticlib: ./build-for $name makes it anew"
+    test "$(sha256sum <"$(made_archive "$root")")" = "$(cat "$root/target/$name/beside")" ||
+        fail "the archive for $name was made beside another one for x86-64 than stands in $(made_archive "$root"): ./build-for $name makes it anew"
     answers_right "$name" "$root/target/$name/libhervantyu.a" "$built/asked" || fail "the archive for $name has another answer than that for x86-64"
     echo "$name: every answer is that of x86-64"
     # On demand: the same board faults where the code makes unaligned accesses, so that none was made above. A Cortex-M0+ has no such instruction.

@@ -1,7 +1,8 @@
 # Sourced by the scripts that need the second opinion, which set tests: builds the programs compare and
 # stored in a folder of its own, named built, in steps, so that the second opinion can be another one.
 
-archive=${HV_ARCHIVE:-$tests/../target/staticlib/libhervantyu.a}
+. "$tests/made.sh"
+archive=${HV_ARCHIVE:-$(made_archive "$tests/..")}
 test -f "$archive" || { echo "no archive at $archive" >&2; exit 1; }
 . "$tests/host.sh"
 built=$(mktemp -d)

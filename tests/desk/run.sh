@@ -5,7 +5,8 @@
 set -eu
 
 folder=$(cd "$(dirname "$0")" && pwd)
-archive=${HV_ARCHIVE:-$folder/../../target/staticlib/libhervantyu.a}
+. "$folder/../made.sh"
+archive=${HV_ARCHIVE:-$(made_archive "$folder/../..")}
 test -f "$archive" || { echo "no archive at $archive" >&2; exit 1; }
 archive=$(cd "$(dirname "$archive")" && pwd)/$(basename "$archive")
 cd "$folder/../.."
