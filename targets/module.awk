@@ -1,10 +1,11 @@
 # awk -f module.awk MODULE.ll: looks through the text of the module for all that would make it another program on a processor whose pointers have 32 bits, and
 # for a function that comes to call itself where a drive can reach it. Tells each on a line, and then how much it looked at; fails where it told one.
 #
-# Every instruction has to be one that is known here: none makes a pointer of a number or a number of a pointer, compares two, or chooses between two; a move
-# and a clearing have a constant length. There is no global, no type with a name, nothing passed by value. Offsets are bytes that are written out, so a slice
-# keeps its 16 bytes, pointer at 0 and length at 8, on every processor: bytes 4 to 7 are then there and without meaning. So no place may be a pointer and a
-# number as well.
+# Every instruction has to be one that is known here: none makes a pointer of a number or a number of a pointer, compares two, or chooses between two, but for
+# the comparison of what is lent with null; a move and a clearing have a constant length. There is no global but constants of bytes, which hold no pointer, no type
+# with a name, nothing passed by value. What a function of the module returns may be a pair, whose second part stands at the same offset with pointers of 32 bits.
+# Offsets are bytes that are written out, so a slice keeps its 16 bytes, pointer at 0 and length at 8, on every processor: bytes 4 to 7 are then there and without
+# meaning. So no place may be a pointer and a number as well. What is cleared is neither: a pointer of it is null and a number 0 on every processor.
 #
 # A place is a byte behind a root: an alloca, a parameter, or another value that is a pointer. getelementptr by a constant goes from place to place; a move joins
 # the places of its two sides, a call those of argument and parameter. Told are: places that were joined and of which one is a byte of a pointer and another one
@@ -50,12 +51,25 @@ function access(type, value,    i) {
     for (i = 0; i < bytes[type] && offset + i < most; i++) { marks++; mark[marks] = root SUBSEP (offset + i); kind[marks] = type == "ptr" ? "byte " i " of a pointer" : "a number"; where[marks] = name }
 }
 
-# Bytes that are cleared are numbers from then on.
-function clear(to, length_,    i) {
+function clear(to, length_) {
     clears++
     if ((name, to) in one) tell(name ": an alloca of a pointer is cleared: " $0)
     find(to); reach(root, offset + length_)
-    for (i = 0; i < length_ && offset + i < most; i++) { marks++; mark[marks] = root SUBSEP (offset + i); kind[marks] = "a number"; where[marks] = name }
+}
+
+# A pair that is loaded: its first part, and its second where it is aligned.
+function pair(type, value,    part_of, first, second, short_) {
+    gsub(/[{},]/, "", type)
+    if (split(type, part_of, " ") != 2 || !(part_of[1] in bytes) || !(part_of[2] in bytes)) { unknown(); return }
+    first = bytes[part_of[1]]; second = bytes[part_of[2]]
+    short_ = part_of[1] == "ptr" ? 4 : first
+    if (part_of[2] == "ptr" ? int((short_ + 3) / 4) * 4 != int((first + 7) / 8) * 8 : int((short_ + second - 1) / second) * second != int((first + second - 1) / second) * second)
+        tell(name ": a pair whose second part stands elsewhere: " $0)
+    find(value)
+    pairs++
+    base[name, "pair" pairs] = root; ahead[name, "pair" pairs] = offset + int((first + second - 1) / second) * second
+    access(part_of[1], value)
+    access(part_of[2], "pair" pairs)
 }
 
 function move(to, from, length_,    to_root, to_offset, i) {
@@ -90,8 +104,10 @@ function call(text,    callee, count, i, word) {
 /^$/ || /^;/ || /^source_filename = / || /^target (datalayout|triple) = / || /^attributes #[0-9]+ = / || /^![a-z0-9.]+ = !\{/ { next }
 /^declare void @llvm\.memmove\.p0\.p0\.i64\(/ || /^declare void @llvm\.memset\.p0\.i64\(/ || /^declare void @llvm\.trap\(\)/ || /^declare i[0-9]+ @llvm\.(cttz|ctlz|ctpop)\.i[0-9]+\(/ { next }
 
+/^@[A-Za-z0-9_.]+ = private unnamed_addr constant \[[0-9]+ x i8\] (c"[^"]*"|zeroinitializer), align [0-9]+$/ { constant[$1]; next }
+
 /^define / {
-    if (in_function || $0 !~ /^define (internal )?(noundef )?(zeroext )?(void|i1|i8|i16|i32|i64) @("[^"]+"|[A-Za-z0-9_]+)\(.*\) #0 \{$/) unknown()
+    if (in_function || $0 !~ /^define (internal )?(noundef )?(zeroext )?(void|i1|i8|i16|i32|i64|\{ [a-z0-9]+, [a-z0-9]+ \}) @("[^"]+"|[A-Za-z0-9_]+)\(.*\) #0 \{$/) unknown()
     in_function = 1
     name = called($0)
     defined[name]
@@ -125,9 +141,11 @@ function call(text,    callee, count, i, word) {
     next
 }
 /^%[^ ]+ = load [a-z0-9]+, ptr %[^ ]+, align [0-9]+$/ { type = $4; sub(/,/, "", type); value = $6; sub(/,/, "", value); access(type, value); next }
+/^%[^ ]+ = load \{ [a-z0-9]+, [a-z0-9]+ \}, ptr %[^ ]+, align [0-9]+$/ { value = $(NF - 2); sub(/,/, "", value); pair($5 " " $6, value); next }
+/^%[^ ]+ = extractvalue \{ [a-z0-9]+, [a-z0-9]+ \} %[^ ]+, [01]$/ { next }
 /^store [a-z0-9]+ [^ ]+, ptr %[^ ]+, align [0-9]+$/ {
     value = $3; sub(/,/, "", value)
-    if ($2 == "ptr" && value !~ /^%/) unknown()
+    if ($2 == "ptr" && value !~ /^%/ && !(value in constant)) unknown()
     value = $5; sub(/,/, "", value); access($2, value); next
 }
 /^call void @llvm\.memmove\.p0\.p0\.i64\(ptr %[^ ]+, ptr %[^ ]+, i64 [0-9]+, i1 false\)$/ {
@@ -136,10 +154,10 @@ function call(text,    callee, count, i, word) {
 /^call void @llvm\.memset\.p0\.i64\(ptr %[^ ]+, i8 0, i64 [0-9]+, i1 false\)$/ {
     parts($0); sub(/^ptr /, "", part[1]); sub(/^i64 /, "", part[3]); clear(part[1], part[3] + 0); next
 }
-/^(%[^ ]+ = )?call (void|i1|i8|i16|i32|i64|zeroext i1) @/ { call($0); next }
+/^(%[^ ]+ = )?call (void|i1|i8|i16|i32|i64|zeroext i1|\{ [a-z0-9]+, [a-z0-9]+ \}) @/ { call($0); next }
 /^%[^ ]+ = (add|sub|mul|shl)( nuw)?( nsw)? i[0-9]+ [^ ]+, [^ ]+$/ || /^%[^ ]+ = (udiv|sdiv|urem|srem|lshr|ashr|and|or|xor)( exact| disjoint)? i[0-9]+ [^ ]+, [^ ]+$/ { next }
-/^%[^ ]+ = icmp [a-z]+ i[0-9]+ [^ ]+, [^ ]+$/ || /^%[^ ]+ = (zext|sext|trunc)( nneg| nuw| nsw)* i[0-9]+ [^ ]+ to i[0-9]+$/ { next }
-/^br (label|i1) / || /^switch i[0-9]+ / || /^i[0-9]+ [0-9]+, label %[^ ]+$/ || /^\]$/ || /^ret (void|i[0-9]+ [^ ]+)$/ || /^unreachable$/ { next }
+/^%[^ ]+ = icmp [a-z]+ i[0-9]+ [^ ]+, [^ ]+$/ || /^%[^ ]+ = icmp eq ptr %[^ ]+, null$/ || /^%[^ ]+ = (zext|sext|trunc)( nneg| nuw| nsw)* i[0-9]+ [^ ]+ to i[0-9]+$/ { next }
+/^br (label|i1) / || /^switch i[0-9]+ / || /^i[0-9]+ [0-9]+, label %[^ ]+$/ || /^\]$/ || /^ret (void|i[0-9]+ [^ ]+|\{ [a-z0-9]+, [a-z0-9]+ \} %[^ ]+)$/ || /^unreachable$/ { next }
 { unknown() }
 
 # From a function on, along its calls; path has those that are not over.
