@@ -22,7 +22,6 @@ use Rattle.spare.specs.Walking.{CanFill}
 use Rattle.figures.specs.declared.Times.{Times}
 use Rattle.figures.specs.Times.{TimesTold, first_figures, times_put, CanPutTimes}
 use Rattle.figures.specs.Figures.{figures_put}
-use Rattle.figures.proofs.Rebuilt as rebuilt
 
 module _ {ts : Set} {kept : Rows} {τ : List Entry} {t : Times} (keeps : Keeps ts kept) (valid : ValidTimetable ts (hyperperiod ts) τ) (told : TimesTold ts τ t) where
   -- each task's lateness, in order
