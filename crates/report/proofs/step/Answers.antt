@@ -1,7 +1,7 @@
 -- A read, an image, or the end.
 use Rattle.std.proofs.Common.{arith}
 use Rattle.reporting.proofs.Answers.{waits_so, goes_so}
-use Rattle.report.proofs.Standing.{many_held, read_drives, used_inside, not_last, image_drives}
+use Rattle.report.proofs.Standing.{many_held, used_inside, not_last, image_drives}
 use Rattle.report.proofs.step.Goals as goal
 
 pub read_more-requires : goal.read_more-requires
