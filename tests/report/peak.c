@@ -1,5 +1,7 @@
-/* Runs the command behind the first argument, and writes to the file that this one names how many kilobytes of memory the command held at most. */
+/* Runs the command behind the first argument, and writes to the file that this one names how many kilobytes of memory the command held at most. It lies at the
+   same addresses each time: with others, more or fewer pages of the C library come along with those that it touches. */
 #include <stdio.h>
+#include <sys/personality.h>
 #include <sys/resource.h>
 #include <sys/wait.h>
 #include <unistd.h>
@@ -12,6 +14,7 @@ int main(int count, char **words)
         return 2;
     pid_t child = fork();
     if (child == 0) {
+        personality(ADDR_NO_RANDOMIZE);
         execvp(words[2], words + 2);
         _exit(127);
     }
