@@ -1,4 +1,4 @@
--- What a call of read or write came to, and what reading leaves in the buffer. Which bytes were read no contract can say. Assumes nothing.
+-- What a call of read or write came to, and what reading leaves in the buffer. Which bytes were read stands in Known, for a reader whose bytes are known. Assumes nothing.
 use Rattle.std.specs.Prelude.{◌≡◌, List, Bool, true, false, ℕ, ◌+◌, ◌≤◌, eqb, ℤ, pos, negsuc, length, take, Result, Ok, Err}
 use Rattle.std.specs.IoError.{error_kind, os_error_kind}
 use Rattle.std.specs.declared.io.Error.{Error}
