@@ -88,7 +88,7 @@ def respelled(text, turned):
     """The text with other names. One of a place that several ways lead to is made of theirs: `then-a-via-else-a+then-b`."""
 
     def one(name):
-        if name in turned or "-via-" not in name:
+        if name in turned or "-via-" not in name and "+" not in name:
             return turned.get(name, name)
         return "-via-".join("+".join(turned.get(it, it) for it in part.split("+")) for part in name.split("-via-"))
 

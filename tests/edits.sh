@@ -99,7 +99,7 @@ read_one() {
             path = ""
         }
         {
-            if (/^  /) said = said $0
+            if (/^  / && !/are not in scope here/) said = said $0
             told()
         }
         / error: / {

@@ -49,3 +49,6 @@ returns-in-Refused c =
     (impossible_set c.args.image.now (state_from c.args.numbers.now) c.args.end _ not_stopped
     (sym c.in-Refused.is ∙ c.judge_kept.ensures.answer))
     c.stop.ensures
+
+pub returns-in-Good : goal.returns-in-Good
+returns-in-Good c = c.go_on_good.ensures

@@ -1,7 +1,11 @@
 -- What was taken stands behind what was written before.
-use Rattle.std.proofs.KnownBytes.{Appends-trans}
+use Rattle.std.proofs.KnownBytes.{Appends-nil, Appends-trans}
+use Rattle.std.proofs.Common.{arith, refl}
 use Rattle.std.proofs.Math.Seq.{take-add}
 use Rattle.standard.proofs.write_text.Goals as goal
+
+pub loop-at-init : goal.loop-at-init
+loop-at-init g c = record { inside = omega arith; known = Appends-nil _; input = refl; errors = refl }
 
 pub loop-at-preserved-in-Moved : goal.loop-at-preserved-in-Moved
 loop-at-preserved-in-Moved g c = record {
