@@ -90,7 +90,7 @@ function read_crate(text,    part, count, i, name, result) {
         sub(/\).*/, "", text)
         print_function(name, trimmed(text), result)
     }
-    if (functions != gsub(/#\[no_mangle\]/, "", all)) fail("not as many functions as marks no_mangle")
+    if (functions != gsub(/#\[unsafe\(no_mangle\)\]/, "", all)) fail("not as many functions as marks no_mangle")
 }
 
 { all = all $0 "\n" }

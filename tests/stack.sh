@@ -76,8 +76,20 @@ awk '
         lines[name] = last
     }
 
+    # A large frame is taken in steps, each of which is stored to, until the stack pointer is where %r11 is: the bytes of all steps, where this is one. The instructions
+    # are those of the compiler for "probe-stack".
+    function steps(i,    all, step) {
+        if (line[name, i - 2] !~ /^mov +%rsp,%r11$/ || line[name, i - 1] !~ /^sub +\$0x[0-9a-f]+,%r11$/ || line[name, i] !~ /^sub +\$0x[0-9a-f]+,%rsp$/) return 0
+        if (line[name, i + 1] !~ /^movq +\$0x0,\(%rsp\)$/ || line[name, i + 2] !~ /^cmp +%r11,%rsp$/ || line[name, i + 3] !~ ("^jne +" at[name, i] " ")) return 0
+        all = line[name, i - 1]; sub(/^.*\$0x/, "", all); sub(/,.*/, "", all)
+        step = line[name, i]; sub(/^.*\$0x/, "", step); sub(/,.*/, "", step)
+        return hex(all) % hex(step) ? 0 : hex(all)
+    }
+
     # By how much an instruction moves the stack pointer down.
-    function moved(text,    digits) {
+    function moved(text, i,    digits) {
+        if (steps(i)) return steps(i)
+        if (steps(i - 2)) return 0
         if (text ~ /^push/) return 8
         if (text ~ /^pop/) return -8
         if (text ~ /^(sub|add) +\$0x[0-9a-f]+,%rsp$/) {
@@ -132,8 +144,8 @@ awk '
             for (i = 1; i <= lines[name]; i++) {
                 if (!((name, at[name, i]) in depth)) continue
                 text = line[name, i]
-                deep = depth[name, at[name, i]] + moved(text)
-                if (text ~ /^j/ && !((name, i) in calls)) {
+                deep = depth[name, at[name, i]] + moved(text, i)
+                if (text ~ /^j/ && !((name, i) in calls) && !steps(i - 3)) {
                     split(text, part, " ")
                     if (part[2] ~ /^[0-9a-f]+$/) known(part[2], deep)
                     else if (!by_table(i)) fail(name ": a jump through a pointer: " text)
@@ -155,7 +167,7 @@ awk '
             }
             deep = depth[name, at[name, i]]
             if (text ~ /^call/ && !((name, i) in calls)) fail(name ": a call through a pointer, or of no named function: " text)
-            if (deep + moved(text) > own[name]) own[name] = deep + moved(text)
+            if (deep + moved(text, i) > own[name]) own[name] = deep + moved(text, i)
             if (deep + below(text) > own[name]) own[name] = deep + below(text)
         }
     }
