@@ -53,18 +53,15 @@ if test -z "$named"; then
     told "a read that fails in the second image" "$p2" "report: standard input: Resource temporarily unavailable|"
 
     # Ten times as many images take no more memory, but for 16 pages: their bytes would be 199, the lines that they have 54. With 1,000 of them what is
-    # read at once has been filled. How many pages of the program and of the C library are there differs from run to run, by up to 40: the least of eight counts.
+    # read at once has been filled.
     gcc -O2 -Wall -Wextra -Werror -o "$built/peak" "$folder/peak.c"
     for count_of in 1000 10000; do
         repeated "$count_of" "$samples/p2.image" >"$built/many"
-        for run in 1 2 3 4 5 6 7 8; do
-            # Unquoted: no word where there is no emulator.
-            "$built/peak" "$built/held" $emulator "$program" <"$built/many" >"$out"
-            cat "$built/held" >>"$built/held-$count_of"
-        done
+        # Unquoted: no word where there is no emulator.
+        "$built/peak" "$built/held-$count_of" $emulator "$program" <"$built/many" >"$out"
         compare "the lines of $count_of images" "$((10 * count_of))" "$(wc -l <"$out" | tr -d ' ')"
     done
-    fewer=$(sort -n "$built/held-1000" | head -n 1) more=$(sort -n "$built/held-10000" | head -n 1)
+    fewer=$(cat "$built/held-1000") more=$(cat "$built/held-10000")
     test "$more" -le "$((fewer + 64))" && constant=yes || constant="$fewer and $more kilobytes"
     compare "the memory of 1,000 images is enough for 10,000" yes "$constant"
 fi
