@@ -94,17 +94,6 @@ module _ (k : Intake) (buffer fragment : List ℕ) where
         ∙ append_assoc (take count buffer) fragment (drop (length (take count buffer ++ fragment)) buffer)
         ∙ ap (λ (n : ℕ). take count buffer ++ (fragment ++ drop n buffer)) together))
 
-    -- the fragment put in the place of as many bytes behind the held ones
-    pub put_behind : length fragment ≤ length buffer - count →
-        put_mid count (count + length fragment - count) buffer fragment ≡ output_after (joined k buffer fragment) buffer
-    put_behind l =
-        let rest : ℕ = length buffer - count in
-        let long = length-drop count buffer in
-        let as_many : count + length fragment - count ≡ length fragment = omega arith in
-        let part : mid_of count rest buffer ≡ drop count buffer = take_all rest (drop count buffer) (omega (arith, long)) in
-        let none : post_of count rest buffer ≡ [] = drop_of_length-le (drop count buffer) {i = rest} (omega (arith, long)) in
-        rw as_many (rw (part, none, take-length fragment, append-nil) at (copied_behind l))
-
 -- a fragment that is refused shuts the intake and changes no byte
 pub refused_so : (k : Intake) (buffer fragment : List ℕ) → joined k buffer fragment ≡ refuses (refusal 20 0) → Takes k buffer fragment Shut buffer
 refused_so k buffer fragment e =

@@ -1,7 +1,7 @@
 // The intake: fragments of a table image collected at the front of a lent buffer, and judged there at a closing call.
 #![tactic(auto)]
 
-ghost use Rattle.std.specs.Prelude.{◌≡◌};
+ghost use Rattle.std.specs.Prelude.{◌≡◌, ◌≤◌, ◌++◌, length, take, drop};
 ghost use Rattle.rules.specs.Intake as book;
 
 use rules::{CheckAnswer, Intake, MakeAnswer, TOO_LONG};
@@ -28,6 +28,18 @@ fn within(k: Intake, room: usize) -> Intake
     }
 }
 
+// Copies bytes to the front of a part that has room for them.
+fn copy(from: &[u8], to: &mut [u8])
+    requires { length from.now ≤ length to.old }
+    ensures { to.new ≡ take (length from.now) from.now ++ drop (length from.now) to.old }
+{
+    let mut i: usize = 0;
+    while i < from.len() {
+        to[i] = from[i];
+        i += 1;
+    }
+}
+
 // Takes a fragment behind the bytes that are held. What it answers is the intake afterwards, shut where the fragment is refused, with 20.
 pub fn take(k: Intake, buffer: &mut [u8], fragment: &[u8]) -> Intake
     ensures { book.Takes k buffer.old fragment.now result buffer.new }
@@ -38,7 +50,7 @@ pub fn take(k: Intake, buffer: &mut [u8], fragment: &[u8]) -> Intake
             if buffer.len() - count < fragment.len() {
                 return Intake::Shut;
             }
-            buffer[count..count + fragment.len()].copy_from_slice(fragment);
+            copy(fragment, &mut buffer[count..]);
             Intake::Open(count + fragment.len())
         }
     }

@@ -254,13 +254,13 @@ pub fn judge(image: &[u8], count: bool, kept: &mut [[u32; 16]; 6]) -> Timetable
     ensures { JudgedAs image.now count result kept.new }
 {
     match framing::frame_tasks(image, 1) {
-        TasksAnswer::Refused(refusal) => refused(refusal),
+        TasksAnswer::Refused(refusal) => return refused(refusal),
         TasksAnswer::Framed(p) => {
             let set = framing::read_set(image, p.tasks);
             match sets::judge_set(set, kept) {
                 SetAnswer::Refused(fault) => match framing::frame_from(image, 1, true, p) {
-                    FrameAnswer::Refused(refusal) => refused(refusal),
-                    FrameAnswer::Framed(_) => refused(framing::set_refused(fault)),
+                    FrameAnswer::Refused(refusal) => return refused(refusal),
+                    FrameAnswer::Framed(_) => return refused(framing::set_refused(fault)),
                 },
                 SetAnswer::Good(_) => {
                     let w = walk_entries(image, kept, count);
@@ -270,8 +270,8 @@ pub fn judge(image: &[u8], count: bool, kept: &mut [[u32; 16]; 6]) -> Timetable
                         true,
                         framing::past(p, SL, w.entries, w.entries, 0),
                     ) {
-                        FrameAnswer::Refused(refusal) => refused(refusal),
-                        FrameAnswer::Framed(_) => told(set, w),
+                        FrameAnswer::Refused(refusal) => return refused(refusal),
+                        FrameAnswer::Framed(_) => return told(set, w),
                     }
                 }
             }

@@ -5,7 +5,7 @@ use lib.ListN.{length}
 use borrow.Rule.Slice.PartMut.{put_mid}
 use Rattle.rules.specs.declared.Intake.TheVariants.{Open}
 use Rattle.rules.specs.Intake.{within}
-use Rattle.intake.proofs.Fragments.{within_open, refused_so, joined_shut, joined_not, holds_more, put_behind}
+use Rattle.intake.proofs.Fragments.{within_open, refused_so, joined_shut, joined_not, holds_more, copied_behind}
 use Rattle.intake.proofs.take.Goals as goal
 
 pub overflow_sub-buffer : goal.overflow_sub-buffer
@@ -42,6 +42,6 @@ returns-else-buffer-count c =
     let count = c.in-Open.count in
     record {
       answer = holds_more args.k args.buffer.now args.fragment.now count opened fits;
-      output = ap (put_mid count (count + length args.fragment.now - count) args.buffer.now) c.copy_from_slice.ensures.after
-          ∙ put_behind args.k args.buffer.now args.fragment.now count opened fits;
+      output = ap (put_mid count (length args.buffer.now - count) args.buffer.now) c.copy.ensures
+          ∙ copied_behind args.k args.buffer.now args.fragment.now count opened fits;
     }
