@@ -10,13 +10,6 @@ void *memcpy(void *restrict to, const void *restrict from, size_t count)
     return to;
 }
 
-void *memmove(void *to, const void *from, size_t count)
-{
-    if ((uintptr_t)to - (uintptr_t)from >= count) return memcpy(to, from, count);
-    while (count-- > 0) ((uint8_t *)to)[count] = ((const uint8_t *)from)[count];
-    return to;
-}
-
 void *memset(void *to, int value, size_t count)
 {
     for (size_t i = 0; i < count; i++) ((uint8_t *)to)[i] = (uint8_t)value;
@@ -34,8 +27,6 @@ void __aeabi_memcpy4(word *restrict to, const word *restrict from, size_t count)
     for (; count >= 4; count -= 4) *to++ = *from++;
     memcpy(to, from, count);
 }
-
-void __aeabi_memmove(void *to, const void *from, size_t count) { memmove(to, from, count); }
 
 void __aeabi_memclr(void *to, size_t count) { memset(to, 0, count); }
 

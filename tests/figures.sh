@@ -116,13 +116,13 @@ link_program() {
         $4 in archive { kind = "archive" }
         !($4 in archive) { kind = "" }
         $4 ~ /^(memcpy|memmove|memset|clear_memory)$/ { kind = "memory" }
-        $4 ~ /^__(udivsi3|aeabi_lmul|aeabi_uldivmod)$/ { kind = "library" }
-        $4 ~ /^__(aeabi_uidivmod|udivmoddi4)$/ { kind = "beside" }
+        $4 ~ /^__(udivsi3|aeabi_lmul)$/ { kind = "library" }
+        $4 == "__aeabi_uidivmod" { kind = "beside" }
         $4 == "byte_moved" { kind = "byte" }
         $4 == "call_begins" { kind = "call" }
         $4 == "series_ends" { kind = "series" }
         kind != "" { print kind, $1, $2, $4 }' "$built/names" - >"$built/symbols"
-    if "${prefix}nm" -u "$archive" | awk 'NF == 2 { print $2 }' | grep -v -x -E -e '(__aeabi_)?mem(cpy|move|set|clr)[48]?' -e '__aeabi_(uidiv|uidivmod|lmul|uldivmod)' >&2; then
+    if "${prefix}nm" -u "$archive" | awk 'NF == 2 { print $2 }' | grep -v -x -E -e '(__aeabi_)?mem(cpy|move|set|clr)[48]?' -e '__aeabi_(uidiv|uidivmod|lmul)' >&2; then
         fail "$target: the archive needs these names, which are not counted"
     fi
     for name in hv_go_on hv_begin byte_moved call_begins series_ends; do

@@ -32,7 +32,7 @@ build_program() {
     cortex-m7) words="-mcpu=cortex-m7 -mfloat-abi=hard -mfpu=fpv5-d16" places=code=0,--defsym=more=0x60000000 ;;
     cortex-m33) words="-mcpu=cortex-m33 -mfloat-abi=hard -mfpu=fpv5-sp-d16" places=code=0x10000000,--defsym=more=0x80000000 ;;
     cortex-r5) words="-mcpu=cortex-r5 -mfloat-abi=hard -mfpu=vfpv3-d16" ;;
-    cortex-r5-be) words="-mcpu=cortex-r5 -mfloat-abi=hard -mfpu=vfpv3-d16 -mbig-endian -Wl,--be8" library= sources="$sources $tests/targets/divide.c" ;;
+    cortex-r5-be) words="-mcpu=cortex-r5 -mfloat-abi=hard -mfpu=vfpv3-d16 -mbig-endian -Wl,--be8" library= ;;
     *) fail "no program is known for $1" ;;
     esac
     case $1 in
