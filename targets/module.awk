@@ -3,7 +3,7 @@
 #
 # Every instruction has to be one that is known here: none makes a pointer of a number or a number of a pointer, compares two, or chooses between two, but for
 # the comparison of what is lent with null; a move and a clearing have a constant length. There is no global but constants of bytes, which hold no pointer, no type
-# with a name, nothing passed by value. One function of std, which copies the bytes of a slice to another one, looks at the distance of the two and moves so many. What a function of the module returns may be a pair, whose second part stands at the same offset with pointers of 32 bits.
+# with a name, nothing passed by value. What a function of the module returns may be a pair, whose second part stands at the same offset with pointers of 32 bits.
 # Offsets are bytes that are written out, so a slice keeps its 16 bytes, pointer at 0 and length at 8, on every processor: bytes 4 to 7 are then there and without
 # meaning. So no place may be a pointer and a number as well. What is cleared is neither: a pointer of it is null and a number 0 on every processor.
 #
@@ -14,7 +14,6 @@
 BEGIN {
     drives = "hv_begin hv_go_on hv_check_tables hv_intake_begin hv_intake_take hv_intake_close" # what a drive calls
     most = 1024                                  # places behind a root that are looked at
-    copies = "\"core::ptr::copy_drop::copy_bits::<i8>\""
     bytes["i1"] = bytes["i8"] = 1; bytes["i16"] = 2; bytes["i32"] = 4; bytes["i64"] = bytes["ptr"] = 8
 }
 
@@ -152,8 +151,6 @@ function call(text,    callee, count, i, word) {
 /^call void @llvm\.memmove\.p0\.p0\.i64\(ptr %[^ ]+, ptr %[^ ]+, i64 [0-9]+, i1 false\)$/ {
     parts($0); sub(/^ptr /, "", part[1]); sub(/^ptr /, "", part[2]); sub(/^i64 /, "", part[3]); move(part[1], part[2], part[3] + 0); next
 }
-name == copies && /^%[^ ]+ = (ptrtoaddr|ptrtoint) ptr %a[01] to i64$/ { next }
-name == copies && /^call void @llvm\.memmove\.p0\.p0\.i64\(ptr %a1, ptr %a0, i64 %[^ ]+, i1 false\)$/ { access("i8", "%a0"); access("i8", "%a1"); next }
 /^call void @llvm\.memset\.p0\.i64\(ptr %[^ ]+, i8 0, i64 [0-9]+, i1 false\)$/ {
     parts($0); sub(/^ptr /, "", part[1]); sub(/^i64 /, "", part[3]); clear(part[1], part[3] + 0); next
 }
