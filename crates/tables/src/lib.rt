@@ -29,9 +29,10 @@ fn unused(before: usize, idles: usize, first: u32, idle: u32, wasted: u32) -> Lo
         };
     }
     if wasted < LAST_OFFSET {
+        let behind = (wasted as usize - inversions) as u32;
         return Located {
             number: 19,
-            place: before + idles + (wasted as usize - inversions) / INVERSION_SIZE,
+            place: before + idles + (behind / INVERSION_SIZE as u32) as usize,
             offset: wasted as usize,
         };
     }

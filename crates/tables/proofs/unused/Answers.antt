@@ -13,8 +13,8 @@ returns-then-idle-inversions c =
     let left : a.idle < behind_idles a.first a.idles = omega arith in
     rw (lt-ltb a.idle (behind_idles a.first a.idles) left)
 
-pub overflow_sub-result-then-wasted-lt-LAST_OFFSET : goal.overflow_sub-result-then-wasted-lt-LAST_OFFSET
-overflow_sub-result-then-wasted-lt-LAST_OFFSET c = c.requires.wasted_behind (omega arith) (omega arith)
+pub overflow_sub-behind : goal.overflow_sub-behind
+overflow_sub-behind c = c.requires.wasted_behind (omega arith) (omega arith)
 
 pub returns-then-wasted-lt-LAST_OFFSET : goal.returns-then-wasted-lt-LAST_OFFSET
 unfolding unused_at
