@@ -33,10 +33,8 @@ fn copy(from: &[u8], to: &mut [u8])
     requires { length from.now ≤ length to.old }
     ensures { to.new ≡ take (length from.now) from.now ++ drop (length from.now) to.old }
 {
-    let mut i: usize = 0;
-    while i < from.len() {
+    for i in 0..from.len() {
         to[i] = from[i];
-        i += 1;
     }
 }
 

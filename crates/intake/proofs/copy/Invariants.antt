@@ -4,6 +4,3 @@ use Rattle.intake.proofs.copy.Given as goal
 
 abbrev pub invariant-loop-i : goal.invariant-loop-i
 invariant-loop-i l = record { passed : l.i ≤ length l.from; copied : l.to ≡ take l.i l.from ++ drop l.i l.fn.to }
-
-abbrev pub decreases-loop-i : goal.decreases-loop-i
-decreases-loop-i l = length l.from - l.i
