@@ -1,7 +1,7 @@
 # awk -f turned.awk MODULE.ll: the text of the module for a big-endian processor.
 #
-# A constant stands in the text as the bytes that it has on x86-64. The one table that is known is that of marks, of rows of 80 bytes (crates/images, Row): two bytes,
-# four widths, two lengths, two booleans, the rank, the class and a boolean, each number of 8 bytes aligned to 8. Its numbers are turned.
+# A constant stands in the text as the bytes that it has on x86-64. The one table that is known is that of marks, of rows of 48 bytes (crates/images, Row): two bytes,
+# two lengths, two booleans, the rank, the class and a boolean, each number of 8 bytes aligned to 8. Its numbers are turned.
 #
 # Which variant an enum is stands in a number of 1, 4 or 8 bytes. It is stored whole, and read as its lowest byte, which comes first on x86-64 alone; so of 4 or 8 bytes it
 # is stored such that this byte comes first. These stores are those of 4 or 8 bytes that may stand at any address: of a constant, or of what was read so.
@@ -18,11 +18,11 @@ function unknown(what) { print "turned.awk: not known: " what >"/dev/stderr"; fa
         byte[count] = substr(text, 1, substr(text, 1, 1) == "\\" ? 3 : 1)
         text = substr(text, length(byte[count]) + 1)
     }
-    if (!count || count % 80) unknown($1 " of " count " bytes")
+    if (!count || count % 48) unknown($1 " of " count " bytes")
     for (i = 0; i < count; i++) {
-        within = i % 80
-        if (within < 2 || within == 56 || within == 57 || within == 72 || within == 73) line = line byte[i]
-        else if (within < 8 || within > 57 && within < 64 || within > 73) {
+        within = i % 48
+        if (within < 2 || within == 24 || within == 25 || within == 40 || within == 41) line = line byte[i]
+        else if (within < 8 || within > 25 && within < 32 || within > 41) {
             if (byte[i] != "\\00") unknown("byte " i " of " $1)
             line = line byte[i]
         } else line = line byte[i - within % 8 + 7 - within % 8]

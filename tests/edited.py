@@ -102,7 +102,7 @@ def names(before, after, folder):
         function = module[: -len(".Lts")].partition(".")[2]
         if [it[:2] for it in was] != [it[:2] for it in now]:
             for goal in {new for _, new in after[module]["needs"]} - {new for _, new in before[module]["needs"]}:
-                print(f"new goal: {function.rpartition('.')[2]} {goal}")
+                print(f"new goal: {function.replace('.', '::')} {goal}")
             continue
         turned = {old: new for (_, _, old), (_, _, new) in zip(was, now) if old != new}
         proofs = f"{folder}/proofs/{function.replace('.', '/')}"

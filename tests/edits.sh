@@ -6,7 +6,7 @@
 #
 # An edit holds slips, each behind a comment line of the form
 #     # NAME, WHERE: what it breaks
-# WHERE is the function whose proof has to fail or, in rules, the file of proofs/ with the law that does.
+# WHERE is the function whose proof has to fail or, in rules, the file of proofs/ with the law that does. A method may stand behind its impl, as U8Field::load.
 set -eu -o pipefail
 cd "$(dirname "$0")/.."
 test $# -gt 0 || set -- crates/*/must-fail/*.edit
@@ -81,7 +81,7 @@ read_one() {
         }
 
         FNR == NR {
-            if (match($0, /^# [a-z0-9_]+, [A-Za-z0-9_]+: /)) {
+            if (match($0, /^# [a-z0-9_]+, [A-Za-z0-9_:]*[A-Za-z0-9_]: /)) {
                 text = substr($0, 3, RLENGTH - 4)
                 name[++count] = substr(text, 1, index(text, ",") - 1)
                 where[count] = substr(text, index(text, ",") + 2)
@@ -93,9 +93,15 @@ read_one() {
             next
         }
 
+        # A fact that fails at a function, at a method by its name alone and behind its impl.
+        function fails(where_) {
+            facts[where_]++
+            if (sub(/^.*::/, "", where_)) facts[where_]++
+        }
+
         # The function or the file of proofs/ that an error stands at. What is wrong may go on in the next line.
         function told() {
-            if (path != "" && !of_shape(said)) facts[path]++
+            if (path != "" && !of_shape(said)) fails(path)
             path = ""
         }
         {
@@ -107,7 +113,8 @@ read_one() {
             sub(/:[0-9]+:[0-9]+: error: .*/, "", path)
             sub(/\/(Answers|Invariants|Proof)\.antt$/, "", path)
             sub(/\.antt$/, "", path)
-            sub(/^.*\//, "", path)
+            sub(/^.*proofs\//, "", path)
+            gsub(/\//, "::", path)
             sub(/^.*:[0-9]+:[0-9]+: error: /, "", said)
         }
 
@@ -120,8 +127,8 @@ read_one() {
         /^(fn|struct|impl) / {
             item = $2
             sub(/:$/, "", item)
-            sub(/^.*::/, "", item)
-            for (; opened; opened--) if (!((item, open[opened]) in added)) facts[item]++
+            sub(/^[^:]*::/, "", item)
+            for (; opened; opened--) if (!((item, open[opened]) in added)) fails(item)
         }
 
         END {

@@ -1,24 +1,22 @@
 -- What is given of a set, in the rule book's terms: jobs left, waiting tasks and the least release, by the slots of releases. Assumes nothing.
 use mathlib.Core.Path.{◌≡◌, refl, sym, ◌∙◌}
-use mathlib.Core.Bool.{true}
 use mathlib.Core.List.{List, [], ◌∷◌}
-use Prim.Native.Nat.{ℕ, suc, ◌+◌, ◌*◌, ◌-◌, ◌/◌, ◌≤◌, ◌<◌}
+use Prim.Native.Nat.{ℕ, suc, ◌+◌, ◌*◌, ◌/◌, ◌≤◌, ◌<◌}
 use native.Mathlib.Nat.{div-mul_cancel}
 use native.Mathlib.Omega.{arith}
 use lib.Dec.{ltb}
 use lib.ListN.{length}
-use borrow.Author.Tests.{ltb-true, ltb-false, leb-true, le-leb, lt-leb}
+use borrow.Author.Tests.{ltb-true, ltb-false, le-leb, lt-leb}
 use Rattle.fields.specs.Body.{head₀, tail₀}
 use Rattle.rules.specs.declared.Task.{Task}
-use Rattle.rules.specs.declared.Inversion.{Inversion}
-use Rattle.rules.specs.Tasks.{task_in, Set, task, release, jobs, hyperperiod, KeepsItsRule}
+use Rattle.rules.specs.Tasks.{task_in, Set, task, release, jobs, hyperperiod}
 use Rattle.rules.specs.Priority.{slot, is_left, waiting, least_release}
-use Rattle.rules.specs.Judging.{inversion_in_range}
-use Rattle.rules.proofs.Cases.{by_bool, by_le, both_true}
-use Rattle.rules.proofs.PriorityLaws.{due_in_cycle}
+use Rattle.rules.proofs.Cases.{by_bool, by_le}
 use Rattle.rules.proofs.Inversions.{next_waits}
 use Rattle.sets.proofs.SetKept.{kept_cycle}
-use Rattle.sets.specs.Kept.{Rows, tasks_in, hyperperiod_in}
+use Rattle.decision.specs.declared.Standing.{Standing}
+use Rattle.sets.specs.declared.Kept.{Kept}
+use Rattle.sets.specs.Kept.{tasks_in, hyperperiod_in}
 use Rattle.sets.specs.Scans.{least_of}
 use Rattle.decision.specs.Fits.{next_in, releases_in, Fits}
 use Rattle.decision.specs.Waiting.{come_by}
@@ -40,7 +38,7 @@ least_left h (t ∷ ts) x releases left past =
     by_bool (ltb (head₀ x) (jobs h t)) (λ b. rw (b, least_release) (omega (arith, left 0 (omega arith) (ltb-true _ _ b))))
     (λ b. rw (b, least_release) (omega (arith, past 0 (omega arith) (ltb-false _ _ b), least_by_end h ts (tail₀ x))))
 
-module _ {ts : Set} {kept at : Rows} (fits : Fits ts kept at) where
+module _ {ts : Set} {kept : Kept} {at : Standing} (fits : Fits ts kept at) where
   -- the number of tasks and the hyperperiod, next job numbers and their releases
   abbrev n : ℕ
   n = tasks_in kept
@@ -90,13 +88,3 @@ module _ {ts : Set} {kept at : Rows} (fits : Fits ts kept at) where
       rw fits.set.n_tasks
       (least_left h ts.tasks x releases (λ i l k. fits.releases_there i (omega (arith, fits.set.n_tasks)))
       (λ i l k. past_cycle i (omega (arith, fits.set.n_tasks)) k))
-
--- the instant that a PV in its own range names comes before the end of the cycle
-pub recorded_before : (ts : Set) (h : ℕ) (r : Inversion) → ((j : ℕ) → KeepsItsRule (task ts j)) → inversion_in_range ts h r ≡ true →
-    release (task ts r.task) r.job + r.delay < h
-recorded_before ts h r keep e =
-    let t : Task = task ts r.task in
-    let u = both_true (ltb r.task (length ts.tasks)) _ e in
-    let v = both_true (ltb r.job (jobs h t)) _ u.1 in
-    let in_time : r.delay ≤ t.deadline - t.time = leb-true _ _ v.1 in
-    omega (arith, (keep r.task).takes_time, (keep r.task).fits, due_in_cycle h r.job t (keep r.task) (ltb-true _ _ v.0))

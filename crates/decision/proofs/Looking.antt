@@ -1,40 +1,40 @@
 -- The task of a decision, looked for among the bits of the mask of the waiting tasks: a task with a record for this instant is one of them.
 -- Assumes nothing.
-use mathlib.Core.Path.{◌≡◌, refl, sym, ◌∙◌, ap, ap₂}
+use Rattle.std.specs.Prelude.{Option as Told, is_some}
+use mathlib.Core.Path.{◌≡◌, refl, sym, ◌∙◌, ap}
 use mathlib.Core.Bool.{Bool, true, false}
 use mathlib.Core.List.{List}
 use mathlib.Core.Option.{Option, none, some}
 use Prim.Native.Nat.{ℕ, ◌+◌, ◌-◌, ◌≤◌, ◌<◌}
 use native.Mathlib.Omega.{arith}
-use lib.Dec.{ltb, eqb}
 use lib.Count.{count_trailing_zeros}
 use lib.ListN.{get_or}
-use borrow.Author.Tests.{leb-true, eqb-true, lt-ltb, le-ltb, le-leb, eq-eqb, ne_eqb}
+use borrow.Author.Tests.{leb-true, eqb-true, le-leb, eq-eqb, ne_eqb}
 use Rattle.rules.specs.declared.Inversion.{Inversion}
-use Rattle.rules.specs.Tasks.{Set, task, release, hyperperiod, KeepsItsRule}
+use Rattle.rules.specs.Tasks.{Set, task, release}
 use Rattle.rules.specs.Setting.{lowest}
 use Rattle.rules.specs.Priority.{slot, setting}
 use Rattle.rules.specs.Decision.{falls_at, recorded, is_of}
 use Rattle.rules.specs.Marks.{PV, size}
 use Rattle.rules.specs.Offsets.{Shown, unreadable, no_record, shows, last_offset, lent, own_delay, past_own, readable}
-use Rattle.rules.proofs.Cases.{by_bool, by_option, by_eq, by_le, both_true, clash, differ}
+use Rattle.rules.proofs.Cases.{by_bool, by_option, by_eq, by_le, differ}
 use Rattle.rules.proofs.Arrays.{slot_element}
-use Rattle.rules.proofs.GoodSets.{good_rules}
 use Rattle.rules.proofs.Lowest.{lowest_from_some, lowest_from_below, below_lowest, none_lowest}
-use Rattle.sets.specs.Kept.{Rows, tasks_in}
+use Rattle.decision.specs.declared.Standing.{Standing}
+use Rattle.sets.specs.declared.Kept.{Kept}
+use Rattle.sets.specs.Kept.{tasks_in}
 use Rattle.decision.specs.Fits.{next_in, releases_in, offsets_in, Fits}
-use Rattle.decision.specs.Shown.{no_delay, delay_number}
+use Rattle.decision.specs.Shown.{delay_case, has_delay}
 use Rattle.decision.specs.Waiting.{mask_of, come_by, clear_bit}
 use Rattle.decision.specs.Next.{past_if, delays_in, is_delay, Choosing, IsChosen}
 use Rattle.decision.proofs.Masks.{zero_empty, other_than, same_fails, other_kept, mask_clear, mask_empty, mask_some, cleared_above}
 use Rattle.decision.proofs.WholeRecords.{inversion_after}
-use Rattle.decision.proofs.Fitting.{is_hyperperiod, recorded_before}
 use Rattle.decision.proofs.Reading.{tasks_read_each}
 
 -- a delay falls at an instant where it is the time since the release
-falls_as : (d : Option ℕ) (r t : ℕ) → r ≤ t → t < no_delay → eqb (delay_number d) (t - r) ≡ falls_at d r t
-falls_as none r t come l = ne_eqb no_delay (t - r) (λ e. omega arith)
-falls_as (some d) r t come l =
+falls_as : (d : Option ℕ) (r t : ℕ) → r ≤ t → has_delay d (t - r) ≡ falls_at d r t
+falls_as none r t come = refl
+falls_as (some d) r t come =
     by_eq (r + d) t (λ e. eq-eqb d (t - r) (omega arith) ∙ sym (eq-eqb (r + d) t e))
     (λ e. ne_eqb d (t - r) (λ q. e (omega arith)) ∙ sym (ne_eqb (r + d) t e))
 
@@ -48,25 +48,19 @@ falls_some : (d : Option ℕ) (r t : ℕ) → falls_at d r t ≡ true → true �
 falls_some none r t e = sym e
 falls_some (some d) r t e = refl
 
--- a delay that is not too long is told by its number
-told_delay : (d : Option ℕ) → ((delay : ℕ) → d ≡ some delay → delay < no_delay) → ltb (delay_number d) no_delay ≡ is_delay d
-told_delay none small = le-ltb no_delay no_delay (omega arith)
-told_delay (some delay) small = lt-ltb delay no_delay (small delay refl)
+-- whether one is told
+some_delay : (d : Option ℕ) → is_some (delay_case d) ≡ is_delay d
+some_delay none = refl
+some_delay (some d) = refl
 
 -- what a task's offset shows for job k of task i
-module _ (ts : Set) (bytes : List ℕ) (keep : (j : ℕ) → KeepsItsRule (task ts j)) (i k offset : ℕ) where
+module _ (ts : Set) (bytes : List ℕ) (i k offset : ℕ) where
   -- what the offset shows
   abbrev there : Shown Inversion
   there = (lent bytes ts).inversion_shown offset
 
-  -- the delay of its own record: it names an instant before the end of the cycle
-  pub record OwnRecord (delay : ℕ) : Type 0 where
-    pub in_cycle : release (task ts i) k + delay < hyperperiod ts
-    pub past : past_own there i k offset ≡ offset + size PV
-    pub ends : offset + size PV ≤ last_offset
-
   -- the offset shows the task's own record, or not
-  by_own : {A : Type 0} → ((delay : ℕ) → own_delay there i k ≡ some delay → OwnRecord delay → A) →
+  by_own : {A : Type 0} → ((delay : ℕ) → own_delay there i k ≡ some delay → past_own there i k offset ≡ offset + size PV → offset + size PV ≤ last_offset → A) →
       (own_delay there i k ≡ none → past_own there i k offset ≡ offset → A) → A
   by_own {A} own other = from there refl
     where
@@ -76,55 +70,35 @@ module _ (ts : Set) (bytes : List ℕ) (keep : (j : ℕ) → KeepsItsRule (task 
       from no_record e = other (rw e) (rw e)
       from (shows r after) e =
           by_bool (is_of r i k)
-          (λ b.
-          let is = both_true (eqb r.task i) (eqb r.job k) b in
-          let same_task : r.task ≡ i = eqb-true r.task i is.0 in
-          let same_job : r.job ≡ k = eqb-true r.job k is.1 in
-          let a = inversion_after ts bytes offset r after e in
-          own r.delay (rw (e, b, own_delay))
-          (record {
-            in_cycle = rw (same_task, same_job) at (recorded_before ts (hyperperiod ts) r keep a.2);
-            past = rw (e, b, past_own) a.0;
-            ends = a.1;
-          }))
+          (λ b. let a = inversion_after ts bytes offset r after e in own r.delay (rw (e, b, own_delay)) (rw (e, b, past_own) a.0) a.1)
           (λ b. other (rw (e, b, own_delay)) (rw (e, b, past_own)))
-
-  -- its delay is shorter than the cycle
-  own_short : (delay : ℕ) → own_delay there i k ≡ some delay → delay < hyperperiod ts
-  own_short delay e =
-      by_own (λ d g own. let same : some d ≡ some delay = sym g ∙ e in let q : d ≡ delay = cc in omega (arith, own.in_cycle))
-      (λ g p. let same : none ≡ some delay = sym g ∙ e in clash (cc))
 
   module _ (own : Bool) (is_own : own ≡ is_delay (own_delay there i k)) where
     -- the offset behind the task's start
     pub past_if_own : past_if own offset ≡ past_own there i k offset
     past_if_own =
-        by_own (λ delay e r. let is : own ≡ true = rw e at is_own in rw (is, r.past))
+        by_own (λ delay e past ends. let is : own ≡ true = rw e at is_own in rw (is, past))
         (λ e p. let is : own ≡ false = rw e at is_own in rw (is, p))
 
     -- a record that is the task's own leaves room behind it
     pub own_room : own ≡ true → offset + size PV ≤ last_offset
     own_room is =
-        by_own (λ delay e r. r.ends) (λ e p. let is-not : own ≡ false = rw e at is_own in differ (sym is ∙ is-not))
+        by_own (λ delay e past ends. ends) (λ e p. let is-not : own ≡ false = rw e at is_own in differ (sym is ∙ is-not))
 
 -- a task whose record names an instant has come by then
-pub recorded_come : {ts : Set} {kept at : Rows} → Fits ts kept at →
+pub recorded_come : {ts : Set} {kept : Kept} {at : Standing} → Fits ts kept at →
     (delay : ℕ → Option ℕ) (t i : ℕ) → i < tasks_in kept → recorded (setting ts) delay (next_in at) t i ≡ true → slot (releases_in at) i ≤ t
 recorded_come {ts} {at = at} fits delay t i l e =
     omega (arith, fits.releases_there i l, falls_after (delay i) (release (task ts i) (slot (next_in at) i)) t e)
 
--- a mask that is not 0 has a bit
-pub some_left : {left : ℕ} → (left ≡ 0 → ⊥) → 1 ≤ left
-some_left {left} full = by_le 1 left (λ l. l) (λ g. absurd (full (omega arith)))
-
 -- what is left of the mask: waiting tasks alone, and every one with a record for this instant
-pub record Left (ts : Set) (bytes : List ℕ) (kept at : Rows) (t left : ℕ) : Type 0 where
+pub record Left (ts : Set) (bytes : List ℕ) (kept : Kept) (at : Standing) (t left : ℕ) : Type 0 where
   pub test : ℕ → Bool
   pub is_left : left ≡ mask_of (tasks_in kept) test
   pub waits : (j : ℕ) → j < tasks_in kept → test j ≡ true → come_by (releases_in at) t j ≡ true
   pub has_own : (j : ℕ) → j < tasks_in kept → recorded (setting ts) (delays_in ts bytes (next_in at) (offsets_in at)) (next_in at) t j ≡ true → test j ≡ true
 
-module _ {ts : Set} {bytes : List ℕ} {kept at : Rows} {t mask : ℕ} (c : Choosing ts bytes kept at t mask) where
+module _ {ts : Set} {bytes : List ℕ} {kept : Kept} {at : Standing} {t mask : ℕ} (c : Choosing ts bytes kept at t mask) where
   -- the number of tasks, next job numbers, their releases and the tasks' offsets
   abbrev n : ℕ
   n = tasks_in kept
@@ -156,10 +130,6 @@ module _ {ts : Set} {bytes : List ℕ} {kept at : Rows} {t mask : ℕ} (c : Choo
       ap (λ (o : ℕ). readable ((lent bytes ts).inversion_shown o)) (sym (slot_element offsets i))
       ∙ tasks_read_each (lent bytes ts) n offsets c.tasks_read i l
 
-  -- the time since a release is a delay
-  pub since_small : (r : ℕ) → t - r < no_delay
-  since_small r = omega (arith, c.before_end, c.fits.set.good.short)
-
   -- at first the whole mask is left
   pub left_all : Left ts bytes kept at t mask
   left_all = record {
@@ -169,35 +139,9 @@ module _ {ts : Set} {bytes : List ℕ} {kept at : Rows} {t mask : ℕ} (c : Choo
     has_own = λ j l e. le-leb (slot releases j) t (recorded_come c.fits delay t j l e);
   }
 
-  -- the number that is told of a task's delay
-  module _ {i number : ℕ} (l : i < n)
-      (is_number : number ≡ delay_number (own_delay ((lent bytes ts).inversion_shown (get_or offsets i 0)) i (get_or x i 0))) where
-    -- is that of the slots
-    number_as : number ≡ delay_number (delay i)
-    number_as =
-        is_number
-        ∙ ap₂ (λ (o k : ℕ). delay_number (own_delay ((lent bytes ts).inversion_shown o) i k)) (sym (slot_element offsets i)) (sym (slot_element x i))
-
-    -- it is the time since the release where there is a record for this instant
-    number_now : slot releases i ≤ t → eqb number (t - get_or releases i 0) ≡ now i
-    number_now come =
-        let there : get_or releases i 0 ≡ release (task ts i) (slot x i) = sym (slot_element releases i) ∙ c.fits.releases_there i l in
-        rw (number_as, there)
-        (falls_as (delay i) (release (task ts i) (slot x i)) t (omega (arith, slot_element releases i))
-        (omega (arith, c.before_end, c.fits.set.good.short)))
-
-    -- it is a delay
-    number_own : ltb number no_delay ≡ is_delay (delay i)
-    number_own =
-        ap (λ (d : ℕ). ltb d no_delay) number_as
-        ∙ told_delay (delay i)
-        (λ d e.
-        omega (
-          arith,
-          own_short ts bytes (good_rules c.fits.set.good) i (slot x i) (slot offsets i) d e,
-          is_hyperperiod c.fits,
-          c.fits.set.good.short,
-        ))
+  -- the delay that its offset shows, by the slots
+  delay_as : (i : ℕ) → own_delay ((lent bytes ts).inversion_shown (get_or offsets i 0)) i (get_or x i 0) ≡ delay i
+  delay_as i = rw (← slot_element offsets i, ← slot_element x i)
 
   module _ {left : ℕ} (s : Left ts bytes kept at t left) where
     -- where none is left, none has a record for this instant
@@ -211,11 +155,13 @@ module _ {ts : Set} {bytes : List ℕ} {kept at : Rows} {t mask : ℕ} (c : Choo
         ∙ none_lowest n 0 s.test (mask_empty n s.test few s.is_left e) j (omega arith) (omega arith)))
 
     -- then the lowest of the mask is chosen
-    pub chosen_lowest : left ≡ 0 → {first number : ℕ} → first ≡ count_trailing_zeros 16 mask → first < n →
-        number ≡ delay_number (own_delay ((lent bytes ts).inversion_shown (get_or offsets first 0)) first (get_or x first 0)) →
-        IsChosen ts bytes kept at t mask (record { task = first; own = ltb number no_delay })
-    chosen_lowest e {first} is-first l is_number =
-        record { is_task = is-first ∙ sym (rw (none_left e)); is_own = λ k. number_own l is_number }
+    pub chosen_lowest : left ≡ 0 → {first : ℕ} {own : Bool} {d : Told ℕ} → first ≡ count_trailing_zeros 16 mask → own ≡ is_some d →
+        d ≡ delay_case (own_delay ((lent bytes ts).inversion_shown (get_or offsets first 0)) first (get_or x first 0)) →
+        IsChosen ts bytes kept at t mask (record { task = first; own = own })
+    chosen_lowest e {first} {d = d} is-first is_own told = record {
+      is_task = is-first ∙ sym (rw (none_left e));
+      is_own = λ l. is_own ∙ ap is_some told ∙ some_delay _ ∙ ap is_delay (delay_as first);
+    }
 
     -- the lowest that is left
     module _ (full : left ≡ 0 → ⊥) {i : ℕ} (is_lowest : i ≡ count_trailing_zeros 16 left) where
@@ -255,11 +201,13 @@ module _ {ts : Set} {bytes : List ℕ} {kept at : Rows} {t mask : ℕ} (c : Choo
           (sym (s.has_own j l (lowest_from_some n 0 now j g)) ∙ below_lowest n 0 s.test i found j (omega arith) below)))
 
       -- whether its offset shows a record for this instant is told
-      module _ {told : Bool} (is-told : told ≡ eqb (delay_number (own_delay ((lent bytes ts).inversion_shown (get_or offsets i 0)) i (get_or x i 0)))
+      module _ {told : Bool} (is-told : told ≡ has_delay (own_delay ((lent bytes ts).inversion_shown (get_or offsets i 0)) i (get_or x i 0))
           (t - get_or releases i 0)) where
         -- as the rule book tells it
         told_now : told ≡ now i
-        told_now = is-told ∙ number_now left_below refl left_come
+        told_now =
+            let there : get_or releases i 0 ≡ release (task ts i) (slot x i) = sym (slot_element releases i) ∙ c.fits.releases_there i left_below in
+            is-told ∙ rw (delay_as i, there) (falls_as (delay i) (release (task ts i) (slot x i)) t (omega (arith, left_released)))
 
         -- with one it is chosen
         pub chosen_shown : told ≡ true → IsChosen ts bytes kept at t mask (record { task = i; own = true })
@@ -290,7 +238,4 @@ module _ {ts : Set} {bytes : List ℕ} {kept at : Rows} {t mask : ℕ} (c : Choo
 
   -- no task waits
   pub chosen_none : mask ≡ 0 → IsChosen ts bytes kept at t mask (record { task = 16; own = false })
-  chosen_none e = record {
-    is_task = sym (rw (none_left left_all e) (ap (count_trailing_zeros 16) e ∙ zero_empty 16));
-    is_own = λ l. absurd (omega (arith, few));
-  }
+  chosen_none e = record { is_task = sym (rw (none_left left_all e) (ap (count_trailing_zeros 16) e ∙ zero_empty 16)); is_own = λ l. absurd (omega (arith, few)) }

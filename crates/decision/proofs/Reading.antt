@@ -1,8 +1,9 @@
 -- Whether offsets can be read, on which sets with the same rows kept agree; and the tasks' offsets in turn. Assumes nothing.
+use Rattle.std.specs.Prelude.{Ok, Err}
 use mathlib.Core.Path.{◌≡◌, refl, sym, ◌∙◌, ap}
 use mathlib.Core.Bool.{Bool, true, false}
 use mathlib.Core.List.{List}
-use Prim.Native.Nat.{ℕ, zero, suc, ◌+◌, ◌≤◌, ◌<◌}
+use Prim.Native.Nat.{ℕ, zero, suc, ◌+◌, ◌<◌}
 use native.Mathlib.Omega.{arith}
 use lib.ListN.{get_or}
 use Rattle.fields.specs.Body.{head₀, tail₀}
@@ -13,16 +14,14 @@ use Rattle.rules.specs.Priority.{slot}
 use Rattle.rules.specs.Judging.{idle_in_range, inversion_in_range}
 use Rattle.rules.specs.Marks.{Mark, TS, TK, SL, ID, PV, EN, size}
 use Rattle.rules.specs.Image.{to_idle, to_inversion}
-use Rattle.rules.specs.Offsets.{Shown, unreadable, no_record, shows, Source, record_at, shown_if, idle_by, inversion_by, lent, readable, tasks_readable}
-use Rattle.rules.proofs.Cases.{by_option, by_eq, by_le, both_true}
-use Rattle.rules.proofs.Arrays.{slot_element}
+use Rattle.rules.specs.Offsets.{no_record, shows, Source, record_at, shown_if, idle_by, inversion_by, lent, readable, tasks_readable}
+use Rattle.rules.proofs.Cases.{by_option, by_le, both_true}
 use Rattle.rules.proofs.StuckStarts.{one_unreadable}
-use Rattle.decision.specs.declared.InversionShown.{InversionShown}
-use Rattle.decision.specs.declared.InversionShown.TheVariants.{Unreadable}
-use Rattle.sets.specs.Kept.{Rows, tasks_in, jobs_in, Keeps}
+use Rattle.decision.specs.declared.Unreadable.{Unreadable}
+use Rattle.sets.specs.declared.Kept.{Kept}
+use Rattle.sets.specs.Kept.{tasks_in, jobs_in, Keeps}
 use Rattle.records.proofs.OwnRules.{task_out, job_out, delay_tested}
-use Rattle.decision.specs.Shown.{inversion_case}
-use Rattle.decision.proofs.WholeRecords.{inversion_unread}
+use Rattle.decision.specs.Shown.{read_case}
 use Rattle.sets.proofs.SetKept.{kept_cycle}
 
 -- offsets that can be read one by one can be read all together
@@ -40,7 +39,7 @@ tasks_read_each S (suc m) offsets e (suc i) l =
     tasks_read_each S m (tail₀ offsets) (both_true (readable (S.inversion_shown (head₀ offsets))) _ e).1 i (omega arith)
 
 -- two sets of which the same rows are kept
-module _ {ts us : Set} {kept : Rows} (fits : Keeps ts kept) (other : Keeps us kept) where
+module _ {ts us : Set} {kept : Kept} (fits : Keeps ts kept) (other : Keeps us kept) where
   -- a PV is in its own range for both or for neither
   same_range : (r : Inversion) → inversion_in_range ts (hyperperiod ts) r ≡ inversion_in_range us (hyperperiod us) r
   same_range r =
@@ -70,7 +69,7 @@ module _ {ts us : Set} {kept : Rows} (fits : Keeps ts kept) (other : Keeps us ke
       (λ i l. ap readable (sym (same_shown bytes (slot offsets i))) ∙ tasks_read_each (lent bytes ts) (tasks_in kept) offsets e i l)
 
 -- the ID offset can be read for the one where it can for the other
-pub same_idle_readable : {ts us : Set} {kept : Rows} → Keeps ts kept → Keeps us kept →
+pub same_idle_readable : {ts us : Set} {kept : Kept} → Keeps ts kept → Keeps us kept →
     (bytes : List ℕ) (o : ℕ) → readable ((lent bytes ts).idle_shown o) ≡ true → readable ((lent bytes us).idle_shown o) ≡ true
 same_idle_readable {ts} {us} fits other bytes o can =
     by_option (record_at bytes o) (λ e. rw e (rw e at can)) (λ r e. rw e (sym (by_mark r.mark r.values) ∙ (rw e at can)))
@@ -86,50 +85,12 @@ same_idle_readable {ts} {us} fits other bytes o can =
     by_mark PV v = ap (λ (b : Bool). readable {A = Idle} (shown_if b no_record)) (same_range fits other (to_inversion v))
     by_mark EN v = refl
 
--- the answer that it can be read
-told_readable : (k : Shown Inversion) → (Unreadable ≡ inversion_case k → ⊥) → readable k ≡ true
-told_readable unreadable can = absurd (can refl)
-told_readable no_record can = refl
-told_readable (shows r after) can = refl
+-- with those of n tasks read one by one, all are
+pub all_read : (S : Source) (n : ℕ) (offsets : List ℕ) → ((i : ℕ) → i < n → readable (S.inversion_shown (slot offsets i)) ≡ true) →
+    Ok tt ≡ read_case (tasks_readable S n offsets)
+all_read S n offsets each = rw (tasks_read_all S n offsets each)
 
--- the offsets of the first i tasks can be read, for every set that the rows are kept of
-pub record Reads (bytes : List ℕ) (kept : Rows) (offsets : List ℕ) (i : ℕ) : Type 0 where
-  pub some : i ≤ tasks_in kept
-  pub read : (ts : Set) → Keeps ts kept → (j : ℕ) → j < i →
-      readable ((lent bytes ts).inversion_shown (slot offsets j)) ≡ true
-
-module _ {bytes : List ℕ} {kept : Rows} {offsets : List ℕ} where
-  -- none is read yet
-  pub reads_first : Reads bytes kept offsets 0
-  reads_first = record { some = omega arith; read = λ ts fits j l. absurd (omega arith) }
-
-  -- all are read
-  pub reads_all : {i : ℕ} → Reads bytes kept offsets i → tasks_in kept ≤ i → (ts : Set) → Keeps ts kept →
-      true ≡ tasks_readable (lent bytes ts) (tasks_in kept) offsets
-  reads_all so_far past ts fits = sym (tasks_read_all (lent bytes ts) (tasks_in kept) offsets (λ j l. so_far.read ts fits j (omega arith)))
-
-  -- the next one's offset, with the answer of what it shows
-  module _ {i : ℕ} (so_far : Reads bytes kept offsets i) (l : i < tasks_in kept) {answer : InversionShown}
-      (shown : (ts : Set) → Keeps ts kept →
-      answer ≡ inversion_case ((lent bytes ts).inversion_shown (get_or offsets i 0))) where
-    -- what its slot's offset shows
-    at_slot : (ts : Set) → (lent bytes ts).inversion_shown (get_or offsets i 0) ≡ (lent bytes ts).inversion_shown (slot offsets i)
-    at_slot ts = ap (lent bytes ts).inversion_shown (sym (slot_element offsets i))
-
-    -- it cannot be read
-    pub reads_unread : answer ≡ Unreadable → (ts : Set) → Keeps ts kept →
-        false ≡ tasks_readable (lent bytes ts) (tasks_in kept) offsets
-    reads_unread e ts fits =
-        sym
-        (one_unreadable (lent bytes ts) (tasks_in kept) offsets i l
-        (ap readable (sym (at_slot ts)) ∙ inversion_unread ((lent bytes ts).inversion_shown (get_or offsets i 0)) (sym e ∙ shown ts fits)))
-
-    -- it can
-    pub reads_more : (answer ≡ Unreadable → ⊥) → Reads bytes kept offsets (i + 1)
-    reads_more can = record {
-      some = omega arith;
-      read = λ ts fits j k. by_eq j i
-          (λ e. rw e (ap readable (sym (at_slot ts))
-          ∙ told_readable ((lent bytes ts).inversion_shown (get_or offsets i 0)) (λ q. can (shown ts fits ∙ sym q))))
-          (λ e. so_far.read ts fits j (omega arith));
-    }
+-- with one that cannot be read, not all can be
+pub not_read : (S : Source) (n : ℕ) (offsets : List ℕ) (i : ℕ) → i < n → readable (S.inversion_shown (slot offsets i)) ≡ false → (e : Unreadable) →
+    Err e ≡ read_case (tasks_readable S n offsets)
+not_read S n offsets i l unread e = rw (one_unreadable S n offsets i l unread)

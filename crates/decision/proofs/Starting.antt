@@ -1,4 +1,5 @@
 -- A decision that uses no idle record: the task chosen by slots and bits is the rule book's, and so is what is answered of it. Assumes nothing.
+use Rattle.std.specs.Prelude.{Ok, Err}
 use mathlib.Core.Path.{◌≡◌, sym, ◌∙◌, ap}
 use mathlib.Core.Bool.{true, false}
 use mathlib.Core.List.{List}
@@ -27,19 +28,27 @@ use Rattle.rules.proofs.LateJobs.{waits_keeps, ends_late}
 use Rattle.rules.proofs.Inversions.{lower_waits, not_run}
 use Rattle.rules.proofs.Starts.{lowest_from_same}
 use Rattle.rules.proofs.NextTurns.{shown_choice, idle_ends, next_starts, next_refused, next_past, by_one_turn}
-use Rattle.decision.specs.declared.NextStart.{NextStart as Answer}
-use Rattle.decision.specs.declared.NextStart.TheVariants.{Starts, Stuck}
 use Rattle.decision.specs.declared.Chosen.{Chosen}
-use Rattle.sets.specs.Kept.{Rows, tasks_in, hyperperiod_in, slack_in}
+use Rattle.decision.specs.declared.Standing.{Standing}
+use Rattle.sets.specs.declared.Kept.{Kept}
+use Rattle.sets.specs.Kept.{tasks_in, hyperperiod_in, slack_in}
 use Rattle.decision.specs.Fits.{next_in, releases_in, offsets_in}
 use Rattle.decision.specs.Waiting.{mask_of, come_by, clear_bit, task_number}
-use Rattle.decision.specs.Next.{inverts, next_case, next_of, past_if, delays_in, choice_of, Choosing, IsChosen, StartsAt}
+use Rattle.decision.specs.declared.Idled.{Idled}
+use Rattle.decision.specs.Next.{Answer, inverts, next_case, next_of, past_if, delays_in, choice_of, Choosing, IsChosen, StartsAt}
 use Rattle.decision.proofs.Masks.{other_than, same_fails, other_kept, lowest_other, lowest_number}
 use Rattle.decision.proofs.Fitting.{is_hyperperiod, a_task, left_before, waits_as}
 use Rattle.decision.proofs.Looking.{recorded_come, past_if_own, own_room}
 
 -- a decision that uses no idle record, before the end of the cycle or at it
-module _ {ts : Set} {bytes : List ℕ} {kept at : Rows} {f o t : ℕ} (s : StartsAt ts bytes kept at f o t) where
+module _ {ts : Set} {bytes : List ℕ} {kept : Kept} {at : Standing} {f : ℕ} {d : Idled} (s : StartsAt ts bytes kept at f d) where
+  -- the instant, and the ID offset
+  abbrev t : ℕ
+  t = d.start
+
+  abbrev o : ℕ
+  o = d.idle
+
   -- the number of tasks and the hyperperiod, D − C, next job numbers, their releases and the tasks' offsets
   abbrev n : ℕ
   n = tasks_in kept
@@ -88,11 +97,11 @@ module _ {ts : Set} {bytes : List ℕ} {kept at : Rows} {f o t : ℕ} (s : Start
   all_read = both_in _ _ s.idle_read (rw s.fits.set.n_tasks at s.tasks_read)
 
   -- a task that is refused
-  refused : (i : ℕ) → decided ≡ start_task i → (setting ts).breaks_in_replay x t i t ≡ 18 → Stuck 18 ≡ answered
+  refused : (i : ℕ) → decided ≡ start_task i → (setting ts).breaks_in_replay x t i t ≡ 18 → Err 18 ≡ answered
   refused i d e = ap (next_case ts bytes x offsets) (sym (next_refused bytes ts (standing x f offsets o) t s.is_instant i 17 all_read d e))
 
   -- at the end of the cycle nothing starts
-  pub none_at_end : h ≤ t → Stuck 18 ≡ answered
+  pub none_at_end : h ≤ t → Err 18 ≡ answered
   none_at_end past =
       by_one_turn bytes ts (standing x f offsets o) t s.is_instant (λ a. differ (sym all_read ∙ a))
       (λ l a d. absurd (omega (arith, same, idle_ends bytes ts (standing x f offsets o) t s.is_instant l d)))
@@ -155,7 +164,7 @@ module _ {ts : Set} {bytes : List ℕ} {kept at : Rows} {f o t : ℕ} (s : Start
 
       module _ {c : Chosen} (is-chosen : IsChosen ts bytes kept at t mask c) where
         -- no task is chosen
-        pub none_chosen : n ≤ c.task → Stuck 18 ≡ answered
+        pub none_chosen : n ≤ c.task → Err 18 ≡ answered
         none_chosen past =
             by_chosen (λ i q l come d. absurd (omega (arith, is-chosen.is_task)))
             (λ q d. refused (length ts.tasks) d (rw (le-ltb (length ts.tasks) (length ts.tasks) (omega arith))))
@@ -176,7 +185,7 @@ module _ {ts : Set} {bytes : List ℕ} {kept at : Rows} {f o t : ℕ} (s : Start
           chosen_come = by_waiting (λ come d. omega (arith, slot_element releases i))
 
           -- its job would end late
-          pub chosen_late : get_or slack i 0 < t - get_or releases i 0 → Stuck 18 ≡ answered
+          pub chosen_late : get_or slack i 0 < t - get_or releases i 0 → Err 18 ≡ answered
           chosen_late over =
               by_waiting
               (λ come d.
@@ -236,12 +245,12 @@ module _ {ts : Set} {bytes : List ℕ} {kept at : Rows} {f o t : ℕ} (s : Start
           -- behind its own record there is room
           pub chosen_room : c.own ≡ true → get_or offsets i 0 + size PV ≤ last_offset
           chosen_room own =
-              rw (slot_element offsets i) at (own_room ts bytes keep i (slot x i) (slot offsets i) c.own (is-chosen.is_own l) own)
+              rw (slot_element offsets i) at (own_room ts bytes i (slot x i) (slot offsets i) c.own (is-chosen.is_own l) own)
 
           -- it starts
           pub chosen_starts : t - get_or releases i 0 ≤ get_or slack i 0 → {inversion lower : ℕ} →
               inversion ≡ past_if c.own (get_or offsets i 0) → lower ≡ count_trailing_zeros 16 (clear_bit mask i) →
-              Starts (record { task = i; start = t; idle = o; inversion = inversion; inverts = leb lower i }) ≡ answered
+              Ok (record { task = i; start = t; idle = o; inversion = inversion; inverts = leb lower i }) ≡ answered
           chosen_starts in_time {inversion} {lower} is-inversion is_lower =
               by_waiting
               (λ come d.
@@ -257,7 +266,7 @@ module _ {ts : Set} {bytes : List ℕ} {kept at : Rows} {f o t : ℕ} (s : Start
               )) in
               let past : inversion ≡ past_own ((lent bytes ts).inversion_shown (slot offsets i)) i (slot x i) (slot offsets i) =
               is-inversion ∙ ap (past_if c.own) (sym (slot_element offsets i))
-              ∙ past_if_own ts bytes keep i (slot x i) (slot offsets i) c.own (is-chosen.is_own l) in
+              ∙ past_if_own ts bytes i (slot x i) (slot offsets i) c.own (is-chosen.is_own l) in
               let inverted : leb lower i ≡ inverts ts x t i = rw is_lower (lower_inverts come) in
               rw (past, inverted)
               (ap (next_case ts bytes x offsets)

@@ -1,4 +1,5 @@
 -- The record at an offset: the rule book reads one exactly where it stands whole, and what an offset shows is what is read there. Assumes nothing.
+use Rattle.std.specs.Prelude.{Ok, Err, Some, None, Option as Told}
 use mathlib.Core.Path.{◌≡◌, refl, sym, ◌∙◌, ap, ap₂}
 use mathlib.Core.Bool.{Bool, true, false}
 use mathlib.Core.List.{List}
@@ -15,7 +16,7 @@ use Rattle.rules.specs.declared.Inversion.{Inversion}
 use Rattle.rules.specs.declared.Place.{Place}
 use Rattle.rules.specs.Tasks.{Set, both, hyperperiod}
 use Rattle.rules.specs.Judging.{idle_in_range, inversion_in_range}
-use Rattle.rules.specs.Marks.{Mark, TS, TK, SL, ID, PV, EN, row, marks, size, body_length, mark_in, values}
+use Rattle.rules.specs.Marks.{Mark, TS, TK, SL, ID, PV, EN, row, marks, size, mark_in, values}
 use Rattle.rules.specs.Image.{Record, record_of, to_idle, to_inversion}
 use Rattle.rules.specs.Framing.{allowed, if_allowed, mark_at}
 use Rattle.rules.specs.Offsets.{Shown, unreadable, no_record, shows, last_offset, whole_record, record_at, shown_if, idle_by, inversion_by, lent, own_delay, readable}
@@ -23,12 +24,9 @@ use Rattle.rules.specs.Decision.{is_of}
 use Rattle.rules.proofs.Cases.{by_bool, by_option, by_eq, both_true, both_in, clash, differ}
 use Rattle.rules.proofs.Marked.{mark_found, found_allowed}
 use Rattle.images.specs.Table.{stands_at}
-use Rattle.images.specs.Bodies.{part_of, idle_of, inversion_of}
 use Rattle.images.proofs.TableLaws.{stands_whole}
-use Rattle.images.proofs.BodyLaws.{idle_body_is, inversion_body_is}
-use Rattle.decision.specs.Shown.{whole_at, idle_case, inversion_case, no_delay, delay_number}
-use Rattle.decision.specs.declared.IdleShown.TheVariants as idle_answer
-use Rattle.decision.specs.declared.InversionShown.TheVariants as inversion_answer
+use Rattle.decision.specs.Shown.{whole_at, shown_case, has_delay}
+use Rattle.decision.specs.declared.Unreadable.{Unreadable}
 
 -- a place behind the tasks of a table image
 abbrev behind_tasks : Place
@@ -104,36 +102,17 @@ module _ (bytes : List ℕ) (o : ℕ) where
       (both_in _ _ fits
       (both_in _ _ (eq-eqb (get_or front 0 0) (row m).byte₁ a.first_byte) (eq-eqb (get_or front 1 0) (row m).byte₂ a.second_byte))))
 
--- the body of a whole record is inside the image
-pub body_inside : (bytes : List ℕ) (o : ℕ) (m : Mark) → whole_at bytes o m ≡ true → (len : ℕ) → len ≡ body_length m → o + 2 + len ≤ length bytes
-body_inside bytes o m e len is-length = omega (arith, whole_inside bytes o m e)
+-- the answer that an offset cannot be read
+pub unread_shown : {A : Type 0} (k : Shown A) (e : Unreadable) → Err e ≡ shown_case k → readable k ≡ false
+unread_shown unreadable e is = refl
+unread_shown no_record e is = cc
+unread_shown (shows r after) e is = cc
 
--- a body that is read from the part that begins after the mark
-module _ (bytes : List ℕ) (o len : ℕ) (part : List ℕ) (is-part : part ≡ part_of bytes (o + 2) len) where
-  -- an ID's
-  pub idle_body_read : whole_at bytes o ID ≡ true → len ≡ body_length ID → (r : Idle) → r ≡ idle_of part → r ≡ to_idle (values ID (drop o bytes))
-  idle_body_read e is-length r read = read ∙ ap idle_of is-part ∙ rw is-length (idle_body_is bytes o (whole_inside bytes o ID e))
-
-  -- a PV's
-  pub inversion_body_read : whole_at bytes o PV ≡ true → len ≡ body_length PV → (r : Inversion) → r ≡ inversion_of part →
-      r ≡ to_inversion (values PV (drop o bytes))
-  inversion_body_read e is-length r read = read ∙ ap inversion_of is-part ∙ rw is-length (inversion_body_is bytes o (whole_inside bytes o PV e))
-
--- the number that tells of no record is no delay's
-pub none_told : {told delay : ℕ} → no_delay ≡ told → delay < no_delay → false ≡ eqb told delay
-none_told {told} {delay} e small = sym (ne_eqb told delay (λ g. absurd (omega (arith, e, g, small))))
-
--- the answer that the ID offset cannot be read
-pub idle_unread : (k : Shown Idle) → idle_answer.Unreadable ≡ idle_case k → readable k ≡ false
-idle_unread unreadable e = refl
-idle_unread no_record e = clash (cc)
-idle_unread (shows r after) e = clash (cc)
-
--- and that a task's offset cannot
-pub inversion_unread : (k : Shown Inversion) → inversion_answer.Unreadable ≡ inversion_case k → readable k ≡ false
-inversion_unread unreadable e = refl
-inversion_unread no_record e = clash (cc)
-inversion_unread (shows r after) e = clash (cc)
+-- or that it can
+pub read_shown : {A : Type 0} (k : Shown A) (o : Told A) → Ok o ≡ shown_case k → readable k ≡ true
+read_shown unreadable o is = cc
+read_shown no_record o is = refl
+read_shown (shows r after) o is = refl
 
 -- what the ID offset and a task's offset show
 module _ (ts : Set) (bytes : List ℕ) (o : ℕ) where
@@ -148,27 +127,27 @@ module _ (ts : Set) (bytes : List ℕ) (o : ℕ) where
   module _ (h : ℕ) (same : h ≡ hyperperiod ts) (within : Bool) where
     -- a whole ID, within its own range or not
     pub idle_read : whole_at bytes o ID ≡ true → (r : Idle) → r ≡ to_idle (values ID (drop o bytes)) → within ≡ idle_in_range h r →
-        idle_case (shown_if within (shows r (o + size ID))) ≡ idle_case idle_there
+        shown_case (shown_if within (shows r (o + size ID))) ≡ shown_case idle_there
     idle_read is_whole r read e =
-        ap (λ (b : Bool). idle_case (shown_if b (shows r (o + size ID)))) e ∙ rw (whole_read bytes o ID is_whole, same, read)
+        ap (λ (b : Bool). shown_case (shown_if b (shows r (o + size ID)))) e ∙ rw (whole_read bytes o ID is_whole, same, read)
 
     -- a whole PV, within its own range or not
     module _ (is_whole : whole_at bytes o PV ≡ true) (r : Inversion) (read : r ≡ to_inversion (values PV (drop o bytes)))
         (e : within ≡ inversion_in_range ts h r) where
       -- at the ID offset
-      pub no_idle_read : idle_case (shown_if within no_record) ≡ idle_case idle_there
-      no_idle_read = ap (λ (b : Bool). idle_case (shown_if b no_record)) e ∙ rw (whole_read bytes o PV is_whole, same, read)
+      pub no_idle_read : shown_case (shown_if within no_record) ≡ shown_case idle_there
+      no_idle_read = ap (λ (b : Bool). shown_case (shown_if b no_record)) e ∙ rw (whole_read bytes o PV is_whole, same, read)
 
       -- at a task's offset
-      pub inversion_read : inversion_case (shown_if within (shows r (o + size PV))) ≡ inversion_case inversion_there
-      inversion_read = ap (λ (b : Bool). inversion_case (shown_if b (shows r (o + size PV)))) e ∙ rw (whole_read bytes o PV is_whole, same, read)
+      pub inversion_read : shown_case (shown_if within (shows r (o + size PV))) ≡ shown_case inversion_there
+      inversion_read = ap (λ (b : Bool). shown_case (shown_if b (shows r (o + size PV)))) e ∙ rw (whole_read bytes o PV is_whole, same, read)
 
   -- a whole EN at the ID offset
-  pub idle_at_end : whole_at bytes o EN ≡ true → idle_answer.NoRecord ≡ idle_case idle_there
+  pub idle_at_end : whole_at bytes o EN ≡ true → Ok None ≡ shown_case idle_there
   idle_at_end e = rw (whole_read bytes o EN e)
 
   -- and at a task's
-  pub inversion_at_end : whole_at bytes o EN ≡ true → inversion_answer.NoRecord ≡ inversion_case inversion_there
+  pub inversion_at_end : whole_at bytes o EN ≡ true → Ok None ≡ shown_case inversion_there
   inversion_at_end e = rw (whole_read bytes o EN e)
 
   -- a record of a table image with this mark would stand whole
@@ -177,12 +156,12 @@ module _ (ts : Set) (bytes : List ℕ) (o : ℕ) where
 
   module _ (no-pv : whole_at bytes o PV ≡ false) (no-en : whole_at bytes o EN ≡ false) where
     -- none of the three that may stand at the ID offset
-    pub nothing_for_idle : whole_at bytes o ID ≡ false → idle_answer.Unreadable ≡ idle_case idle_there
+    pub nothing_for_idle : whole_at bytes o ID ≡ false → Err (record {}) ≡ shown_case idle_there
     nothing_for_idle no-id =
         by_option (record_at bytes o) (λ e. rw e) (λ r e. by_mark r.mark r.values (λ may. read_whole bytes o r e may) ∙ sym (rw e))
       where
         -- by the mark of a record that is read
-        by_mark : (m : Mark) (v : List ℕ) → Stands m → idle_answer.Unreadable ≡ idle_case (idle_by ts o m v)
+        by_mark : (m : Mark) (v : List ℕ) → Stands m → Err (record {}) ≡ shown_case (idle_by ts o m v)
         by_mark TS v w = refl
         by_mark TK v w = refl
         by_mark SL v w = refl
@@ -191,12 +170,12 @@ module _ (ts : Set) (bytes : List ℕ) (o : ℕ) where
         by_mark EN v w = differ (sym (w refl) ∙ no-en)
 
     -- neither of the two that may stand at a task's
-    pub nothing_for_task : inversion_answer.Unreadable ≡ inversion_case inversion_there
+    pub nothing_for_task : Err (record {}) ≡ shown_case inversion_there
     nothing_for_task =
         by_option (record_at bytes o) (λ e. rw e) (λ r e. by_mark r.mark r.values (λ may. read_whole bytes o r e may) ∙ sym (rw e))
       where
         -- by the mark of a record that is read
-        by_mark : (m : Mark) (v : List ℕ) → Stands m → inversion_answer.Unreadable ≡ inversion_case (inversion_by ts o m v)
+        by_mark : (m : Mark) (v : List ℕ) → Stands m → Err (record {}) ≡ shown_case (inversion_by ts o m v)
         by_mark TS v w = refl
         by_mark TK v w = refl
         by_mark SL v w = refl
@@ -254,8 +233,8 @@ module _ (ts : Set) (bytes : List ℕ) (o : ℕ) where
   -- the ID offset, where it can be read
   module _ (can : readable idle_there ≡ true) where
     -- no answer tells that it cannot
-    idle_told : {A : Type 0} → idle_answer.Unreadable ≡ idle_case idle_there → A
-    idle_told e = differ (sym can ∙ idle_unread idle_there e)
+    idle_told : {A : Type 0} → Err (record {}) ≡ shown_case idle_there → A
+    idle_told e = differ (sym can ∙ unread_shown idle_there _ e)
 
     -- it stands at a whole ID, PV or EN
     by_idle_readable : {A : Type 0} → (whole_at bytes o ID ≡ true → A) → (whole_at bytes o PV ≡ true → A) → (whole_at bytes o EN ≡ true → A) → A
@@ -271,7 +250,7 @@ module _ (ts : Set) (bytes : List ℕ) (o : ℕ) where
         (λ w. omega (arith, whole_inside bytes o EN w))
 
     -- with another first byte than ID's it shows no record
-    pub no_id_shown : (get_or bytes o 0 ≡ (row ID).byte₁ → ⊥) → idle_answer.NoRecord ≡ idle_case idle_there
+    pub no_id_shown : (get_or bytes o 0 ≡ (row ID).byte₁ → ⊥) → Ok None ≡ shown_case idle_there
     no_id_shown other =
         by_idle_readable (λ w. absurd (other (first_byte bytes o ID w)))
         (λ w. by_bool (inversion_in_range ts (hyperperiod ts) pv_there) (λ b. no_idle_read _ refl true w _ refl (sym b))
@@ -284,7 +263,7 @@ module _ (ts : Set) (bytes : List ℕ) (o : ℕ) where
         by_idle_readable (λ w. w) (λ w. absurd (omega (arith, first_byte bytes o PV w))) (λ w. absurd (omega (arith, first_byte bytes o EN w)))
 
     -- which is shown
-    pub id_shown : whole_at bytes o ID ≡ true → (r : Idle) → r ≡ to_idle (values ID (drop o bytes)) → idle_answer.Shows r ≡ idle_case idle_there
+    pub id_shown : whole_at bytes o ID ≡ true → (r : Idle) → r ≡ to_idle (values ID (drop o bytes)) → Ok (Some r) ≡ shown_case idle_there
     id_shown w r read =
         by_bool (idle_in_range (hyperperiod ts) r) (λ b. idle_read _ refl true w r read (sym b))
         (λ b. idle_told (idle_read _ refl false w r read (sym b)))
@@ -300,7 +279,7 @@ module _ (ts : Set) (bytes : List ℕ) (o : ℕ) where
       by_bool within (λ b. pv w (there ∙ rw b))
       (λ b. let unread : inversion_there ≡ unreadable = there ∙ rw b in differ (sym can ∙ ap readable unread)))
       (λ w. by_bool (whole_at bytes o EN) (λ v. en v (rw (whole_read bytes o EN v)))
-      (λ v. differ (sym can ∙ inversion_unread inversion_there (nothing_for_task w v))))
+      (λ v. differ (sym can ∙ unread_shown inversion_there _ (nothing_for_task w v))))
 
   module _ (can : readable inversion_there ≡ true) where
     -- it is inside the image
@@ -309,7 +288,7 @@ module _ (ts : Set) (bytes : List ℕ) (o : ℕ) where
         by_readable can (λ w e. omega (arith, whole_inside bytes o PV w)) (λ w e. omega (arith, whole_inside bytes o EN w))
 
     -- with another first byte than PV's it shows no record
-    pub own_none : (i k : ℕ) → (get_or bytes o 0 ≡ (row PV).byte₁ → ⊥) → no_delay ≡ delay_number (own_delay inversion_there i k)
+    pub own_none : (i k : ℕ) → (get_or bytes o 0 ≡ (row PV).byte₁ → ⊥) → own_delay inversion_there i k ≡ none
     own_none i k other = by_readable can (λ w e. absurd (other (first_byte bytes o PV w))) (λ w e. rw e)
 
     -- with PV's first byte it shows a PV
@@ -324,39 +303,31 @@ module _ (ts : Set) (bytes : List ℕ) (o : ℕ) where
 
       module _ (r : Inversion) (read : r ≡ pv_there) (i k : ℕ) where
         -- its delay, by whether it is the record of this job
-        delay_shown : (b : Bool) → is_of r i k ≡ b →
-            delay_number (own_delay inversion_there i k) ≡ delay_number (elim b [ true ↦ some r.delay | false ↦ none ])
-        delay_shown b e =
+        own_shown : (b : Bool) → is_of r i k ≡ b → own_delay inversion_there i k ≡ elim b [ true ↦ some r.delay | false ↦ none ]
+        own_shown b e =
             let shown : inversion_there ≡ shows r (o + size PV) = pv_shown ∙ ap (λ (q : Inversion). shows q (o + size PV)) (sym read) in
             rw (shown, e, own_delay)
 
         -- it is another task's
-        pub other_task : (r.task ≡ i → ⊥) → no_delay ≡ delay_number (own_delay inversion_there i k)
-        other_task other = sym (delay_shown false (rw (ne_eqb r.task i other)))
+        pub other_task : (r.task ≡ i → ⊥) → own_delay inversion_there i k ≡ none
+        other_task other = own_shown false (rw (ne_eqb r.task i other))
 
         -- it is another job's
-        pub other_job : r.task ≡ i → (r.job ≡ k → ⊥) → no_delay ≡ delay_number (own_delay inversion_there i k)
-        other_job same_task other = sym (delay_shown false (rw (eq-eqb r.task i same_task, ne_eqb r.job k other)))
+        pub other_job : r.task ≡ i → (r.job ≡ k → ⊥) → own_delay inversion_there i k ≡ none
+        other_job same_task other = own_shown false (rw (eq-eqb r.task i same_task, ne_eqb r.job k other))
 
         -- it is this job's
-        pub own_job : r.task ≡ i → r.job ≡ k → r.delay ≡ delay_number (own_delay inversion_there i k)
-        own_job same_task same_job = sym (delay_shown true (rw (eq-eqb r.task i same_task, eq-eqb r.job k same_job)))
+        pub own_job : r.task ≡ i → r.job ≡ k → own_delay inversion_there i k ≡ some r.delay
+        own_job same_task same_job = own_shown true (rw (eq-eqb r.task i same_task, eq-eqb r.job k same_job))
 
-        -- the delay that is told
-        abbrev told : ℕ
-        told = delay_number (own_delay inversion_there i k)
+        -- with another delay it is not the record with this one
+        pub other_delay : (delay : ℕ) → (r.delay ≡ delay → ⊥) → has_delay (own_delay inversion_there i k) delay ≡ false
+        other_delay delay other =
+            by_bool (is_of r i k) (λ b. rw (own_shown true b) (ne_eqb r.delay delay other)) (λ b. rw (own_shown false b))
 
-        -- with another delay than the one asked for
-        pub other_delay_shown : (delay : ℕ) → delay < no_delay → (r.delay ≡ delay → ⊥) → false ≡ eqb told delay
-        other_delay_shown delay small other =
-            by_eq r.task i
-            (λ same_task. by_eq r.job k (λ same_job. sym (ne_eqb told delay (λ g. other (own_job same_task same_job ∙ g))))
-            (λ another. none_told (other_job same_task another) small))
-            (λ another. none_told (other_task another) small)
-
-        -- with this delay, and this task's, it is shown where it is this job's
-        pub job_shown : (delay : ℕ) → delay < no_delay → r.delay ≡ delay → r.task ≡ i → eqb r.job k ≡ eqb told delay
-        job_shown delay small same-delay same_task =
+        -- with this delay, and this task's, it is where it is this job's
+        pub job_shown : (delay : ℕ) → r.delay ≡ delay → r.task ≡ i → eqb r.job k ≡ has_delay (own_delay inversion_there i k) delay
+        job_shown delay same_delay same_task =
             by_eq r.job k
-            (λ same_job. eq-eqb r.job k same_job ∙ sym (eq-eqb told delay (sym (own_job same_task same_job) ∙ same-delay)))
-            (λ other. ne_eqb r.job k other ∙ none_told (other_job same_task other) small)
+            (λ same_job. rw (own_job same_task same_job, eq-eqb r.job k same_job, eq-eqb r.delay delay same_delay))
+            (λ other. rw (other_job same_task other, ne_eqb r.job k other))

@@ -2,29 +2,32 @@
 // the body readers that framing has.
 #![tactic(auto)]
 
-ghost use Rattle.std.specs.Prelude.{◌≡◌, true, ℕ, ◌+◌, min, ◌≤◌, ◌<◌, eqb, length};
+ghost use Rattle.std.specs.Prelude.{◌≡◌, true, ℕ, ◌+◌, min, ◌≤◌, ◌<◌, length};
 ghost use Rattle.std.specs.Int.Count.{count_trailing_zeros};
 ghost use Rattle.rules.specs.Tasks.{Set};
 ghost use Rattle.rules.specs.Marks as book_marks;
 ghost use Rattle.rules.specs.Offsets.{last_offset, lent, readable, tasks_readable, own_delay};
 ghost use Rattle.images.specs.Table.{mark_of};
-ghost use Rattle.sets.specs.Kept.{Rows, tasks_in, hyperperiod_in, Keeps};
+ghost use Rattle.sets.specs.declared.Kept.{Kept};
+ghost use Rattle.sets.specs.Kept.{tasks_in, hyperperiod_in, Keeps};
 ghost use Rattle.decision.specs.Fits.{Stands};
-ghost use Rattle.decision.specs.Shown.{whole_at, idle_case, inversion_case, no_delay, delay_number};
+ghost use Rattle.decision.specs.Shown.{whole_at, shown_case, read_case, delay_case, has_delay};
 ghost use Rattle.decision.specs.Waiting.{mask_of, come_by, set_bit, clear_bit};
-ghost use Rattle.decision.specs.Next.{IdlesRead, AllRead, next_from, FindsNext, past_if, Choosing, IsChosen, StartsAt, Idling, IdledTo};
+ghost use Rattle.decision.specs.declared.Stuck.TheVariants as stuck;
+ghost use Rattle.decision.specs.Next.{IdlesRead, AllRead, numbered, next_from, FindsNext, past_if, Choosing, IsChosen, StartsAt, Idling, IdledTo};
 
-use images::{EN, ID, PV, body_of, row_of, size_of};
-use records::{idle_keeps, inversion_keeps};
+use images::{IDLE_SIZE, INVERSION_SIZE, Mark, ROWS};
+use records::{idle_at, idle_keeps, inversion_at, inversion_keeps};
 use rules::{Idle, Inversion, LARGEST};
-use sets::{FIGURES, HYPERPERIOD, SLACK, TASKS};
+use sets::Kept;
 
-// Where replay stands, in rows of sixteen slots: of each task the number of its next job, that job's release and the task's offset.
-pub const NEXT: usize = 0;
-
-pub const RELEASE: usize = 1;
-
-pub const OFFSETS: usize = 2;
+// Where replay stands: in the slot of each task the number of its next job, that job's release and the task's offset.
+#[derive(Clone, Copy)]
+pub struct Standing {
+    pub next: [u32; 16],
+    pub release: [u32; 16],
+    pub offsets: [u32; 16],
+}
 
 // How far replay has come: the instant from which the processor is free, and the ID offset.
 #[derive(Clone, Copy)]
@@ -35,9 +38,6 @@ pub struct Front {
 
 // The last offset: every record ends at or before this byte, so none begins there.
 pub const LAST_OFFSET: u32 = LARGEST;
-
-// No record's delay.
-const NO_DELAY: u32 = LARGEST;
 
 // The byte at or before which a record must end: the end of the image, or the largest offset.
 fn readable_to(image: &[u8]) -> u32
@@ -50,128 +50,106 @@ fn readable_to(image: &[u8]) -> u32
 }
 
 // Does a whole record with a mark stand at an offset?
-fn whole(image: &[u8], o: u32, k: usize) -> bool
-    ensures { result ≡ whole_at image.now o (mark_of k) }
+fn whole(image: &[u8], o: u32, mark: Mark) -> bool
+    ensures { result ≡ whole_at image.now o (mark_of mark) }
 {
     let to = readable_to(image);
-    let size = size_of(k) as u32;
-    if to < size {
+    let size = mark.size() as u32;
+    if to < size || to - size < o {
         return false;
     }
-    if to - size < o {
-        return false;
-    }
-    images::marked(image, o as usize, k)
+    images::marked(image, o as usize, mark)
 }
 
-// What the ID offset shows: nothing that may stand there, no idle record, or one.
+// Nothing that may stand at an offset stands there.
 #[derive(Clone, Copy)]
-pub enum IdleShown {
-    Unreadable,
-    NoRecord,
-    Shows(Idle),
-}
+pub struct Unreadable;
 
-// What an ID offset which can be read shows. There stands an ID, PV or EN, and the first byte tells an ID from the others.
-fn idle_judged(image: &[u8], o: u32) -> IdleShown
+// The idle record that an ID offset which can be read shows. There stands an ID, PV or EN, and the first byte tells an ID from the others.
+fn idle_judged(image: &[u8], o: u32) -> Option<Idle>
     requires { (ts : Set) × (readable ((lent image.now ts).idle_shown o) ≡ true) }
     ensures { (ts : Set) → readable ((lent image.now ts).idle_shown o) ≡ true →
-        result ≡ idle_case ((lent image.now ts).idle_shown o) }
+        Ok result ≡ shown_case ((lent image.now ts).idle_shown o) }
 {
     let at = o as usize;
-    if image[at] != row_of(ID).first {
-        return IdleShown::NoRecord;
+    if image[at] != ROWS[Mark::ID as usize].first {
+        return None;
     }
-    let r = images::idle_body(images::part(image, at + 2, body_of(ID)));
-    IdleShown::Shows(r)
+    Some(idle_at(image, at))
 }
 
-// At the ID offset stands a whole ID, PV or EN; a record outside its own range is unreadable. Where the image's records were judged and the offset
-// stands among them, it can be read, and the first byte tells.
-fn idle_shown(image: &[u8], judged: bool, kept: &[[u32; 16]; 6], o: u32) -> IdleShown
+// The idle record that the ID offset shows. At the ID offset stands a whole ID, PV or EN; a record outside its own range is unreadable. Where the image's
+// records were judged and the offset stands among them, it can be read, and the first byte tells.
+fn idle_shown(image: &[u8], judged: bool, kept: &Kept, o: u32) -> Result<Option<Idle>, Unreadable>
     requires few { tasks_in kept.now ≤ 16 }
     requires read { judged ≡ true → ((ts : Set) × Keeps ts kept.now × (readable ((lent image.now ts).idle_shown o) ≡ true)) }
-    ensures { (ts : Set) → Keeps ts kept.now → result ≡ idle_case ((lent image.now ts).idle_shown o) }
+    ensures { (ts : Set) → Keeps ts kept.now → result ≡ shown_case ((lent image.now ts).idle_shown o) }
 {
     if judged {
-        return idle_judged(image, o);
+        return Ok(idle_judged(image, o));
     }
     let at = o as usize;
-    if whole(image, o, ID) {
-        let r = images::idle_body(images::part(image, at + 2, body_of(ID)));
-        if idle_keeps(kept[FIGURES][HYPERPERIOD], r) {
-            return IdleShown::Shows(r);
+    if whole(image, o, Mark::ID) {
+        let r = idle_at(image, at);
+        if idle_keeps(kept.hyperperiod, r) {
+            return Ok(Some(r));
         }
-        return IdleShown::Unreadable;
+        return Err(Unreadable);
     }
-    if whole(image, o, PV) {
-        let r = images::inversion_body(images::part(image, at + 2, body_of(PV)));
+    if whole(image, o, Mark::PV) {
+        let r = inversion_at(image, at);
         if inversion_keeps(kept, r) {
-            return IdleShown::NoRecord;
+            return Ok(None);
         }
-        return IdleShown::Unreadable;
+        return Err(Unreadable);
     }
-    if whole(image, o, EN) {
-        return IdleShown::NoRecord;
+    if whole(image, o, Mark::EN) {
+        return Ok(None);
     }
-    IdleShown::Unreadable
+    Err(Unreadable)
 }
 
-// What a task's offset shows: nothing that may stand there, no inversion record, or one.
-#[derive(Clone, Copy)]
-pub enum InversionShown {
-    Unreadable,
-    NoRecord,
-    Shows(Inversion),
-}
-
-// At a task's offset stands a whole PV or EN.
-fn inversion_shown(image: &[u8], kept: &[[u32; 16]; 6], offset: u32) -> InversionShown
+// The inversion record that a task's offset shows. There stands a whole PV or EN.
+fn inversion_shown(image: &[u8], kept: &Kept, offset: u32) -> Result<Option<Inversion>, Unreadable>
     requires { tasks_in kept.now ≤ 16 }
     ensures { (ts : Set) → Keeps ts kept.now →
-        result ≡ inversion_case ((lent image.now ts).inversion_shown offset) }
+        result ≡ shown_case ((lent image.now ts).inversion_shown offset) }
 {
     let at = offset as usize;
-    if whole(image, offset, PV) {
-        let r = images::inversion_body(images::part(image, at + 2, body_of(PV)));
+    if whole(image, offset, Mark::PV) {
+        let r = inversion_at(image, at);
         if inversion_keeps(kept, r) {
-            return InversionShown::Shows(r);
+            return Ok(Some(r));
         }
-        return InversionShown::Unreadable;
+        return Err(Unreadable);
     }
-    if whole(image, offset, EN) {
-        return InversionShown::NoRecord;
+    if whole(image, offset, Mark::EN) {
+        return Ok(None);
     }
-    InversionShown::Unreadable
+    Err(Unreadable)
 }
 
-// Can all tasks' offsets be read? They are the same at every decision on the way to one start: idling moves the ID offset alone. Where the image's
+// All tasks' offsets can be read. They are the same at every decision on the way to one start: idling moves the ID offset alone. Where the image's
 // records were judged and the offsets stand among them, they can be.
-fn tasks_readable(image: &[u8], judged: bool, kept: &[[u32; 16]; 6], offsets: &[u32; 16]) -> bool
+fn read_tasks(
+    image: &[u8],
+    judged: bool,
+    kept: &Kept,
+    offsets: &[u32; 16],
+) -> Result<(), Unreadable>
     requires few { tasks_in kept.now ≤ 16 }
     requires read { judged ≡ true → ((ts : Set) × Keeps ts kept.now
         × (tasks_readable (lent image.now ts) (tasks_in kept.now) offsets.now ≡ true)) }
     ensures { (ts : Set) → Keeps ts kept.now →
-        result ≡ tasks_readable (lent image.now ts) (tasks_in kept.now) offsets.now }
+        result ≡ read_case (tasks_readable (lent image.now ts) (tasks_in kept.now) offsets.now) }
 {
     if judged {
-        return true;
+        return Ok(());
     }
-    let n = kept[FIGURES][TASKS];
-    let mut i: u32 = 0;
-    'tasks: loop {
-        if n <= i {
-            break 'tasks true;
-        }
-        match inversion_shown(image, kept, offsets[i as usize]) {
-            InversionShown::Unreadable => {
-                break 'tasks false;
-            }
-            InversionShown::NoRecord => {}
-            InversionShown::Shows(_) => {}
-        }
-        i += 1;
+    for i in 0..kept.tasks {
+        inversion_shown(image, kept, offsets[i as usize])?;
     }
+    Ok(())
 }
 
 // Waiting tasks are one bit each: a release sets it.
@@ -211,9 +189,7 @@ fn waiting(n: usize, release: &[u32; 16], t: u32) -> u16
     ensures { result ≡ mask_of n (come_by release.now t) }
 {
     let mut mask: u16 = 0;
-    let mut i = n as u32;
-    while 0 < i {
-        i -= 1;
+    for i in (0..n as u32).rev() {
         mask = mask * 2;
         if release[i as usize] <= t {
             mask = with_released(mask, 0);
@@ -222,39 +198,38 @@ fn waiting(n: usize, release: &[u32; 16], t: u32) -> u16
     mask
 }
 
-// The delay that an offset which can be read shows for a job of a task; NO_DELAY where it shows no record of that job. There stands a PV or EN, and their
-// first bytes differ.
-fn own_delay(image: &[u8], offset: u32, task: u32, job: u32) -> u32
+// The delay that an offset which can be read shows for a job of a task, if it shows a record of that job. There stands a PV or EN, and their first bytes
+// differ.
+fn own_delay(image: &[u8], offset: u32, task: u32, job: u32) -> Option<u32>
     requires { (ts : Set) × (readable ((lent image.now ts).inversion_shown offset) ≡ true) }
     ensures { (ts : Set) → readable ((lent image.now ts).inversion_shown offset) ≡ true →
-        result ≡ delay_number (own_delay ((lent image.now ts).inversion_shown offset) task job) }
+        result ≡ delay_case (own_delay ((lent image.now ts).inversion_shown offset) task job) }
 {
     let at = offset as usize;
-    if image[at] != row_of(PV).first {
-        return NO_DELAY;
+    if image[at] != ROWS[Mark::PV as usize].first {
+        return None;
     }
-    let r = images::inversion_body(images::part(image, at + 2, body_of(PV)));
+    let r = inversion_at(image, at);
     if r.task != task {
-        return NO_DELAY;
+        return None;
     }
     if r.job != job {
-        return NO_DELAY;
+        return None;
     }
-    r.delay
+    Some(r.delay)
 }
 
 // Does an offset which can be read show the record of a job of a task, with this delay?
 fn shows_delay(image: &[u8], offset: u32, task: u32, job: u32, delay: u32) -> bool
-    requires shown { (ts : Set) × (readable ((lent image.now ts).inversion_shown offset) ≡ true) }
-    requires a_delay { delay < no_delay }
+    requires { (ts : Set) × (readable ((lent image.now ts).inversion_shown offset) ≡ true) }
     ensures { (ts : Set) → readable ((lent image.now ts).inversion_shown offset) ≡ true →
-        result ≡ eqb (delay_number (own_delay ((lent image.now ts).inversion_shown offset) task job)) delay }
+        result ≡ has_delay (own_delay ((lent image.now ts).inversion_shown offset) task job) delay }
 {
     let at = offset as usize;
-    if image[at] != row_of(PV).first {
+    if image[at] != ROWS[Mark::PV as usize].first {
         return false;
     }
-    let r = images::inversion_body(images::part(image, at + 2, body_of(PV)));
+    let r = inversion_at(image, at);
     if r.delay != delay {
         return false;
     }
@@ -272,37 +247,33 @@ pub struct Chosen {
 }
 
 // Rules (2) and (3): the lowest task with a record for this instant, else the lowest waiting one. A task with such a record waits.
-fn chosen_task(image: &[u8], at: &[[u32; 16]; 3], mask: u16, t: u32) -> Chosen
-    requires { (ts : Set) × (kept : Rows) × Choosing ts image.now kept at.now t mask }
-    ensures { (ts : Set) (kept : Rows) → Choosing ts image.now kept at.now t mask →
+fn chosen_task(image: &[u8], at: &Standing, mask: u16, t: u32) -> Chosen
+    requires { (ts : Set) × (kept : Kept) × Choosing ts image.now kept at.now t mask }
+    ensures { (ts : Set) (kept : Kept) → Choosing ts image.now kept at.now t mask →
         IsChosen ts image.now kept at.now t mask result }
 {
-    let next = &at[NEXT];
-    let release = &at[RELEASE];
-    let offsets = &at[OFFSETS];
+    let next = &at.next;
+    let release = &at.release;
+    let offsets = &at.offsets;
     if mask == 0 {
         return Chosen {
             task: 16,
             own: false,
         };
     }
-    let first = lowest(mask);
-    let i = first as usize;
     let mut left = mask;
-    'tasks: loop {
-        if left == 0 {
-            break 'tasks Chosen {
-                task: first,
-                own: own_delay(image, offsets[i], first, next[i]) < NO_DELAY,
-            };
-        }
+    'tasks: while left != 0 {
         let task = lowest(left);
         let j = task as usize;
         if shows_delay(image, offsets[j], task, next[j], t - release[j]) {
-            break 'tasks Chosen { task, own: true };
+            return Chosen { task, own: true };
         }
         left = without_lowest(left);
     }
+    let first = lowest(mask);
+    let i = first as usize;
+    let own = own_delay(image, offsets[i], first, next[i]).is_some();
+    Chosen { task: first, own }
 }
 
 // A start, with what it used: the ID offset and the task's own offset behind it, and whether a lower-numbered task was waiting.
@@ -315,11 +286,19 @@ pub struct Found {
     pub inverts: bool,
 }
 
-// The next start, or the number of what stops it.
+// What stops it: no job starts in time, or an offset cannot be read.
 #[derive(Clone, Copy)]
-pub enum NextStart {
-    Starts(Found),
-    Stuck(u32),
+pub enum Stuck {
+    NoStart,
+    Unreadable,
+}
+
+impl From<Unreadable> for Stuck {
+    ghost from_gives = { λ _ e. e ≡ stuck.Unreadable };
+
+    fn from(_offset: Unreadable) -> Stuck {
+        Stuck::Unreadable
+    }
 }
 
 // The task's own offset behind a start: past its record, where its offset shows it.
@@ -328,104 +307,81 @@ fn own_offset(own: bool, offset: u32) -> u32
     ensures { result ≡ past_if own offset }
 {
     if own {
-        return offset + (size_of(PV) as u32);
+        return offset + (INVERSION_SIZE as u32);
     }
     offset
 }
 
-// What starts at an instant, where no idle record is used; a start that would end late is refused. A start clears its task's bit, and is an inversion
-// unless all that still wait have higher numbers.
-fn start_at(
-    image: &[u8],
-    kept: &[[u32; 16]; 6],
-    at: &[[u32; 16]; 3],
-    idle: u32,
-    t: u32,
-) -> NextStart
-    requires { (ts : Set) × (f : ℕ) × StartsAt ts image.now kept.now at.now f idle t }
-    ensures { (ts : Set) (f : ℕ) → StartsAt ts image.now kept.now at.now f idle t →
-        result ≡ next_from ts image.now at.now f idle }
+// Where idling ends: the instant at which no idle record is used, and the ID offset there.
+#[derive(Clone, Copy)]
+pub struct Idled {
+    pub start: u32,
+    pub idle: u32,
+}
+
+// What starts where idling ends; a start that would end late is refused. A start clears its task's bit, and is an inversion unless all that still wait have
+// higher numbers.
+fn start_at(image: &[u8], kept: &Kept, at: &Standing, idled: Idled) -> Result<Found, Stuck>
+    requires { (ts : Set) × (f : ℕ) × StartsAt ts image.now kept.now at.now f idled }
+    ensures { (ts : Set) (f : ℕ) → StartsAt ts image.now kept.now at.now f idled →
+        numbered result ≡ next_from ts image.now at.now f idled.idle }
 {
-    let n = kept[FIGURES][TASKS] as usize;
-    let slack = &kept[SLACK];
-    let release = &at[RELEASE];
-    let offsets = &at[OFFSETS];
-    if kept[FIGURES][HYPERPERIOD] <= t {
-        return NextStart::Stuck(18);
+    let n = kept.tasks as usize;
+    let slack = &kept.slack;
+    let release = &at.release;
+    let offsets = &at.offsets;
+    let t = idled.start;
+    if kept.hyperperiod <= t {
+        return Err(Stuck::NoStart);
     }
     let mask = waiting(n, release, t);
     let c = chosen_task(image, at, mask, t);
     let task = c.task;
     let i = task as usize;
     if n <= i {
-        return NextStart::Stuck(18);
+        return Err(Stuck::NoStart);
     }
     if slack[i] < t - release[i] {
-        return NextStart::Stuck(18);
+        return Err(Stuck::NoStart);
     }
     let left = without_started(mask, task);
     let inverts = lowest(left) <= task;
     let inversion = own_offset(c.own, offsets[i]);
-    NextStart::Starts(Found {
+    Ok(Found {
         task,
         start: t,
-        idle,
+        idle: idled.idle,
         inversion,
         inverts,
     })
-}
-
-// Where idling ends: whether the ID offset could be read all the way; the instant at which no idle record is used, and the ID offset there.
-#[derive(Clone, Copy)]
-pub struct Idled {
-    pub readable: bool,
-    pub start: u32,
-    pub idle: u32,
-}
-
-// An end of idling, by its parts.
-fn ended(readable: bool, start: u32, idle: u32) -> Idled
-    ensures { result ≡ record { readable = readable; start = start; idle = idle } }
-{
-    Idled {
-        readable,
-        start,
-        idle,
-    }
 }
 
 // Past the idle records that are used, one at each decision, from the free instant, the least release and the ID offset.
 fn past_idles(
     image: &[u8],
     judged: bool,
-    kept: &[[u32; 16]; 6],
-    at: &[[u32; 16]; 3],
+    kept: &Kept,
+    at: &Standing,
     front: Front,
-) -> Idled
+) -> Result<Idled, Unreadable>
     requires by_end { front.free ≤ hyperperiod_in kept.now }
     requires idling { (ts : Set) × Idling ts image.now kept.now at.now × (judged ≡ true → IdlesRead (lent image.now ts) front.idle) }
     ensures { (ts : Set) → Idling ts image.now kept.now at.now →
         IdledTo ts image.now kept.now at.now front result }
 {
-    let n = kept[FIGURES][TASKS] as usize;
-    let first = sets::least(n, kept[FIGURES][HYPERPERIOD], &at[RELEASE]);
+    let n = kept.tasks as usize;
+    let first = sets::least(n, kept.hyperperiod, &at.release);
     let mut from = front.free;
     let mut o = front.idle;
     'decisions: loop {
         let t = sets::later(from, first);
-        match idle_shown(image, judged, kept, o) {
-            IdleShown::Unreadable => {
-                break 'decisions ended(false, t, o);
-            }
-            IdleShown::NoRecord => {
-                break 'decisions ended(true, t, o);
-            }
-            IdleShown::Shows(r) => {
-                if r.start != t {
-                    break 'decisions ended(true, t, o);
-                }
+        match idle_shown(image, judged, kept, o)? {
+            Some(r) if r.start == t => {
                 from = t + r.length;
-                o += size_of(ID) as u32;
+                o += IDLE_SIZE as u32;
+            }
+            _ => {
+                break 'decisions Ok(Idled { start: t, idle: o });
             }
         }
     }
@@ -436,20 +392,15 @@ fn past_idles(
 pub fn next_start(
     image: &[u8],
     judged: bool,
-    kept: &[[u32; 16]; 6],
-    at: &[[u32; 16]; 3],
+    kept: &Kept,
+    at: &Standing,
     front: Front,
-) -> NextStart
+) -> Result<Found, Stuck>
     requires { (ts : Set) × Stands ts kept.now at.now front
         × (judged ≡ true → AllRead image.now ts kept.now at.now front.idle) }
     ensures { FindsNext image.now kept.now at.now front result }
 {
-    if !tasks_readable(image, judged, kept, &at[OFFSETS]) {
-        return NextStart::Stuck(25);
-    }
-    let d = past_idles(image, judged, kept, at, front);
-    if !d.readable {
-        return NextStart::Stuck(25);
-    }
-    start_at(image, kept, at, d.idle, d.start)
+    read_tasks(image, judged, kept, &at.offsets)?;
+    let idled = past_idles(image, judged, kept, at, front)?;
+    start_at(image, kept, at, idled)
 }

@@ -7,34 +7,35 @@ use native.Mathlib.Omega.{arith}
 use lib.ListN.{length}
 use borrow.Author.Tests.{le-leb, lt-leb}
 use Rattle.rules.specs.declared.Entry.{Entry}
-use Rattle.rules.specs.declared.MakeAnswer.TheVariants as make_case
+use Rattle.rules.specs.declared.Located.{Located}
+use Rattle.std.specs.Prelude.{Ok, Err}
 use Rattle.rules.specs.Refusals.{Judged, gives, refuses, refusal}
 use Rattle.rules.specs.Tasks.{Set, limits, memory_set}
 use Rattle.rules.specs.Setting.{Tables}
 use Rattle.rules.specs.Judging.{tables}
 use Rattle.rules.specs.Marks.{ID, PV, EN, size, head_length_of}
 use Rattle.rules.specs.Image.{image, record_of, head_records, table_image}
-use Rattle.rules.specs.Located.{located}
+use Rattle.rules.specs.Located.{located, RefusedAt}
 use Rattle.rules.specs.Operations.{derived, derived_image, make_answer, output_after, into, derive, derive_output, Derives}
 use Rattle.rules.proofs.GoodSets.{set_good}
 use Rattle.rules.proofs.Images.{records_before, table_image_length}
-use Rattle.sets.specs.Kept.{Rows, hyperperiod_in}
+use Rattle.sets.specs.declared.Kept.{Kept}
+use Rattle.sets.specs.Kept.{hyperperiod_in}
 use Rattle.writing.specs.Writing.{put_at, record_put}
 use Rattle.timetables.specs.declared.Timetable.{Timetable}
 use Rattle.timetables.specs.declared.Counts.{Counts}
-use Rattle.timetables.specs.Judged.{entries_behind, Good, JudgedAs, EntriesValid}
+use Rattle.timetables.specs.Judged.{entries_behind, Good, EntriesValid}
 use Rattle.timetables.specs.Counted.{Counted}
 use Rattle.derivation.specs.Putting.{tables_put, CanPut}
 use Rattle.derivation.proofs.ImagePut.{table_put}
 use Rattle.derivation.proofs.ValidEntries.{few_idles, few_inversions}
 
 -- what an image is refused with is answered, and the output is as it was
-pub refused_so : {bytes : List ℕ} {kept : Rows} {t : Timetable} (old : List ℕ) → JudgedAs bytes true t kept → (t.refusal.number ≡ 0 → ⊥) →
-    Derives bytes old (make_case.Refused t.refusal) old
+pub refused_so : {bytes : List ℕ} {r : Located} (old : List ℕ) → RefusedAt bytes (derived bytes) r → Derives bytes old (Err r) old
 unfolding derive derive_output
-refused_so {bytes} {t = t} old judged numbered = let r = (judged.refused numbered).0 in record { answer = rw r.judged (ap make_case.Refused r.there); output = rw r.judged }
+refused_so old r = record { answer = rw r.judged (ap Err r.there); output = rw r.judged }
 
-module _ {bytes : List ℕ} {kept : Rows} {t : Timetable} (g : Good bytes true t kept) where
+module _ {bytes : List ℕ} {kept : Kept} {t : Timetable} (g : Good bytes true t kept) where
   -- the set's tasks
   abbrev ts : Set
   ts = memory_set t.set
@@ -89,7 +90,7 @@ module _ {bytes : List ℕ} {kept : Rows} {t : Timetable} (g : Good bytes true t
 
   -- an output that is too short is refused, and is as it was
   pub too_short : (old : List ℕ) (n : ℕ) → n ≡ long → length old < n →
-      Derives bytes old (make_case.Refused (located bytes (refusal 20 0))) old
+      Derives bytes old (Err (located bytes (refusal 20 0))) old
   unfolding derive derive_output
   too_short old n n_is short =
       let e : derived_image (length old) bytes ≡ refuses (refusal 20 0) =
@@ -102,9 +103,9 @@ module _ {bytes : List ℕ} {kept : Rows} {t : Timetable} (g : Good bytes true t
     given = image_given (length old) ∙ rw (le-leb (length (table_image ts X)) (length old) (omega (arith, image_long)))
 
     -- else the length of the image is answered
-    pub answered : make_case.Made n ≡ derive bytes old
+    pub answered : Ok n ≡ derive bytes old
     unfolding derive
-    answered = ap make_case.Made (n_is ∙ sym image_long) ∙ sym (ap (make_answer bytes) given)
+    answered = ap Ok (n_is ∙ sym image_long) ∙ sym (ap (make_answer bytes) given)
 
     -- and the set, the tables and EN put one behind the other are the image at the front of the output, with all other bytes as they were
     pub put_out : (set_put tables_in end-put : List ℕ) (end before : ℕ) →

@@ -4,23 +4,11 @@ use mathlib.Core.Path.{◌≡◌, refl, sym, ◌∙◌, ap}
 use mathlib.Core.List.{List, [], ◌++◌, append_assoc, append-nil}
 use Prim.Native.Nat.{ℕ, zero, suc, ◌+◌, ◌≤◌, ◌<◌}
 use native.Mathlib.Omega.{arith}
-use native.Mathlib.Numerals.{add-one}
-use lib.ListN.{length, get_or, set, length-append}
-use lib.Seq.{get_or-set_same, get_or-set_other}
+use lib.ListN.{length, length-append}
 use Rattle.rules.proofs.Cases.{by_eq}
 use Rattle.writing.specs.Writing.{put_at}
-use Rattle.derivation.specs.Parts.{joined, puts, Apart, LeftToPut, sum_first}
+use Rattle.derivation.specs.Parts.{joined, puts, Apart, LeftToPut}
 use Rattle.writing.proofs.Puts.{put_none, put_length, put_next, put_apart}
-
--- numbers that each slot up to i is to hold, with one slot more
-pub slot_more : (xs : List ℕ) (goal : ℕ → ℕ) (i v : ℕ) → i < length xs → ((k : ℕ) → k < i → get_or xs k 0 ≡ goal k) → v ≡ goal i →
-    (k : ℕ) → k < i + 1 → get_or (set xs i v) k 0 ≡ goal k
-slot_more xs goal i v l before here k lt =
-    by_eq k i (λ e. rw e (get_or-set_same xs i v 0 l ∙ here)) (λ n. get_or-set_other xs i k v 0 n ∙ before k (omega arith))
-
--- the sum of one count more
-pub sum_more : (i : ℕ) (counts : List ℕ) → sum_first (i + 1) counts ≡ sum_first i counts + get_or counts i 0
-sum_more i counts = ap (λ (k : ℕ). sum_first k counts) (add-one i)
 
 -- the same parts at the same places
 pub puts_same : (many i : ℕ) (places places' : ℕ → ℕ) (parts parts' : ℕ → List ℕ) (out : List ℕ) →

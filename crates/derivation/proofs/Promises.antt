@@ -10,8 +10,7 @@ use Rattle.fields.specs.Number.{Bytes}
 use Rattle.rules.specs.declared.Entry.{Entry}
 use Rattle.rules.specs.declared.Refusal.{Refusal}
 use Rattle.rules.specs.declared.Located.{Located}
-use Rattle.rules.specs.declared.MakeAnswer.{MakeAnswer}
-use Rattle.rules.specs.declared.MakeAnswer.TheVariants.{Made, Refused}
+use Rattle.std.specs.Prelude.{Result, Ok, Err}
 use Rattle.rules.specs.Tasks.{Set}
 use Rattle.rules.specs.Refusals.{Judged, gives}
 use Rattle.rules.specs.Setting.{Tables}
@@ -25,16 +24,16 @@ use Rattle.rules.proofs.Demand2.{derives_image, derive_made}
 use Rattle.rules.proofs.Promises as book
 
 -- the contract of `derive` leaves one answer and one output
-pub one_result : (bytes old : List ℕ) (r q : MakeAnswer) (out other : List ℕ) → Derives bytes old r out → Derives bytes old q other → (r ≡ q) × (out ≡ other)
+pub one_result : (bytes old : List ℕ) (r q : Result ℕ Located) (out other : List ℕ) → Derives bytes old r out → Derives bytes old q other → (r ≡ q) × (out ≡ other)
 one_result bytes old r q out other met also = (met.answer ∙ sym also.answer, met.output ∙ sym also.output)
 
-module _ (bytes old : List ℕ) (r : MakeAnswer) (out : List ℕ) (met : Derives bytes old r out) where
+module _ (bytes old : List ℕ) (r : Result ℕ Located) (out : List ℕ) (met : Derives bytes old r out) where
   -- on a refusal all bytes of the output keep their values
-  pub refused_keeps : (q : Located) → r ≡ Refused q → out ≡ old
+  pub refused_keeps : (q : Located) → r ≡ Err q → out ≡ old
   refused_keeps q e = met.output ∙ (book.derive_refusals bytes old q (sym met.answer ∙ e)).1
 
   -- it is a refusal exactly where that is the first that the document's order comes to, and 20 is the last
-  pub refused_exactly : Bytes bytes → (q : Refusal) → (r ≡ Refused (located bytes q)) ↔ RefusesDeriving bytes (length old) q
+  pub refused_exactly : Bytes bytes → (q : Refusal) → (r ≡ Err (located bytes q)) ↔ RefusesDeriving bytes (length old) q
   refused_exactly b q =
       let exactly = book.derive_order bytes old b q in
       (λ e. exactly.0 (sym met.answer ∙ e), λ w. met.answer ∙ exactly.1 w)
@@ -42,7 +41,7 @@ module _ (bytes old : List ℕ) (r : MakeAnswer) (out : List ℕ) (met : Derives
   -- from the image of a timetable, where there is room, the image of exactly its irregularities is written, and later bytes keep their values
   pub writes_exactly : {ts : Set} {τ : List Entry} (t : TimetableImage bytes ts τ) (X : Tables) → HasTables ts t.h τ X →
       length (table_image ts X) ≤ length old →
-      (r ≡ Made (length (table_image ts X))) × (out ≡ table_image ts X ++ drop (length (table_image ts X)) old)
+      (r ≡ Ok (length (table_image ts X))) × (out ≡ table_image ts X ++ drop (length (table_image ts X)) old)
   unfolding derive derive_output
   writes_exactly {ts} {τ} t X has room =
       let its_tables : X ≡ tables ts τ = one_table t.good t.valid has in
@@ -53,7 +52,7 @@ module _ (bytes old : List ℕ) (r : MakeAnswer) (out : List ℕ) (met : Derives
       (met.answer ∙ ap (make_answer bytes) given, met.output ∙ ap (λ (z : Judged (List ℕ)). output_after z old) given)
 
   -- and a length is answered only where the bytes are such an image, and those irregularities are what was written
-  pub writes_only : Bytes bytes → (n : ℕ) → r ≡ Made n →
+  pub writes_only : Bytes bytes → (n : ℕ) → r ≡ Ok n →
       (ts : Set) × (τ : List Entry) × (t : TimetableImage bytes ts τ) × (X : Tables) × HasTables ts t.h τ X × (take n out ≡ table_image ts X)
   writes_only b n e =
       let w = derive_made bytes old n b (sym met.answer ∙ e) in

@@ -1,6 +1,6 @@
 -- Irregularities put into an output in one walk: what is put so far and what the entries left add come to the tables of the whole. Assumes nothing.
 use mathlib.Core.Path.{◌≡◌, refl, sym, ◌∙◌, ap}
-use mathlib.Core.Bool.{Bool, true, false}
+use mathlib.Core.Bool.{Bool, true}
 use mathlib.Core.List.{List, [], ◌∷◌}
 use Prim.Native.Nat.{ℕ, suc, ◌+◌, ◌-◌, ◌≤◌, ◌<◌}
 use native.Mathlib.Nat.{sub-zero}
@@ -19,7 +19,9 @@ use Rattle.rules.specs.Marks.{Mark, SL, ID, PV, size}
 use Rattle.rules.specs.Image.{record_of, of_idle, of_inversion, head_length}
 use Rattle.rules.proofs.Cases.{by_bool, by_eq}
 use Rattle.rules.proofs.PriorityLaws.{StartKeepsRules, slot_empty, slot_start_same, slot_start_other}
-use Rattle.sets.specs.Kept.{Rows, tasks_in}
+use Rattle.sets.specs.declared.Kept.{Kept}
+use Rattle.sets.specs.Kept.{tasks_in, Keeps}
+use Rattle.sets.proofs.SetKept.{one_set}
 use Rattle.writing.specs.Writing.{put_at, record_put}
 use Rattle.writing.proofs.Puts.{put_length}
 use Rattle.timetables.specs.declared.Counts.{Counts}
@@ -35,20 +37,16 @@ use Rattle.derivation.specs.Putting.{FewCounted, PartsBegin, idle_from, inversio
 use Rattle.derivation.proofs.ByTask.{inversions_by_task}
 use Rattle.derivation.proofs.TablesPut.{idle_put, inversion_put, same_left, all_put, all_left}
 use Rattle.derivation.proofs.ImagePut.{tables_length}
-use Rattle.timetables.proofs.ValidTurns.{ValidAt, first_left, entry_keeps, entry_task, entry_next, all_valid, first_valid}
+use Rattle.timetables.proofs.ValidTurns.{ValidAt, first_left, entry_keeps, entry_task, few_started, entry_next, all_valid, first_valid}
 use Rattle.derivation.proofs.ValidEntries.{few_idles, few_own}
 
--- where there is no record all stays as it was
-pub none_put : {is : Bool} {m : Mark} {values out : List ℕ} {place : ℕ} → is ≡ false → PutWhere is m values out place out place
-none_put e = record { output = rw e; next = rw e }
-
--- and where there is one it is put
+-- where there is a record it is put
 pub one_put : {is : Bool} {m : Mark} {values old : List ℕ} {place : ℕ} {out : List ℕ} → is ≡ true → out ≡ record_put old place (record_of m values) →
     PutWhere is m values old place out (place + size m)
 one_put e put = record { output = rw e put; next = rw e }
 
 -- the walk at entry j, with the next job numbers, the output so far, the places where records go, and what the output comes to
-pub record PutFrom (ts : Set) (bytes : List ℕ) (kept : Rows) (listed : ℕ) (releases next : List ℕ) (free at j idle_at : ℕ)
+pub record PutFrom (ts : Set) (bytes : List ℕ) (kept : Kept) (listed : ℕ) (releases next : List ℕ) (free at j idle_at : ℕ)
     (offsets old out : List ℕ) : Type 0 where
   pub started : List ℕ
   pub numbers : (i : ℕ) → get_or next i 0 ≡ slot started i
@@ -61,7 +59,7 @@ pub record PutFrom (ts : Set) (bytes : List ℕ) (kept : Rows) (listed : ℕ) (r
   pub long : length out ≡ length old
 
 -- what is counted is few
-pub can_few : {ts : Set} {bytes : List ℕ} {kept : Rows} {listed : ℕ} {c : Counts} {out : List ℕ} → CanPut ts bytes kept listed c out →
+pub can_few : {ts : Set} {bytes : List ℕ} {kept : Kept} {listed : ℕ} {c : Counts} {out : List ℕ} → CanPut ts bytes kept listed c out →
     FewCounted (tasks_in kept) c
 can_few can = record {
   tasks = can.valid.stand.keeps.few;
@@ -70,7 +68,7 @@ can_few can = record {
 }
 
 -- before the first entry all of the tables are left
-pub put_first : {ts : Set} {bytes : List ℕ} {kept : Rows} {listed : ℕ} {releases : List ℕ} {at idle_at : ℕ} {c : Counts} {offsets out : List ℕ} →
+pub put_first : {ts : Set} {bytes : List ℕ} {kept : Kept} {listed : ℕ} {releases : List ℕ} {at idle_at : ℕ} {c : Counts} {offsets out : List ℕ} →
     CanPut ts bytes kept listed c out → PartsBegin (tasks_in kept) c offsets → AtEntry ts kept releases [] at 0 → idle_at ≡ head_length ts →
     PutFrom ts bytes kept listed releases (replicate 16 0) 0 at 0 idle_at offsets out out
 put_first {ts} {bytes} {listed = listed} {at = at} {c = c} {offsets} {out} can begin w first =
@@ -100,7 +98,7 @@ put_first {ts} {bytes} {listed = listed} {at = at} {c = c} {offsets} {out} can b
       long = refl;
     }
 
-module _ {ts : Set} {bytes : List ℕ} {kept : Rows} {listed : ℕ} {releases next : List ℕ} {free at j idle_at : ℕ} {offsets old out : List ℕ}
+module _ {ts : Set} {bytes : List ℕ} {kept : Kept} {listed : ℕ} {releases next : List ℕ} {free at j idle_at : ℕ} {offsets old out : List ℕ}
     (w : PutFrom ts bytes kept listed releases next free at j idle_at offsets old out) where
   -- the set's setting
   abbrev G : Setting
@@ -117,12 +115,13 @@ module _ {ts : Set} {bytes : List ℕ} {kept : Rows} {listed : ℕ} {releases ne
   abbrev whole : List ℕ
   whole = tables_put old ts (tables_behind bytes ts listed)
 
-  -- at the end all is put
-  pub put_all : listed ≤ j → out ≡ whole
-  put_all end =
+  -- at the end all is put, of the only set that the rows are kept of
+  pub put_all : {us : Set} → Keeps us kept → listed ≤ j → out ≡ tables_put old us (tables_behind bytes us listed)
+  put_all keeps end =
       let none = no_entry_left bytes at listed j end in
-      all_put idle_at offsets out (λ k. task_inversions G k x []) (λ k. refl)
-      (same_left idle_at offsets out _ _ _ _ (ap (forced_idles G x free) none) (λ k. ap (task_inversions G k x) none) w.left)
+      rw (one_set keeps w.walk.all.keeps)
+      (all_put idle_at offsets out (λ k. task_inversions G k x []) (λ k. refl)
+      (same_left idle_at offsets out _ _ _ _ (ap (forced_idles G x free) none) (λ k. ap (task_inversions G k x) none) w.left))
 
   module _ (more : j < listed) {e : Entry} (is : e ≡ entry_in bytes at) where
     -- the entries behind this one
@@ -144,6 +143,10 @@ module _ {ts : Set} {bytes : List ℕ} {kept : Rows} {listed : ℕ} {releases ne
     -- its task has a part
     a_part : e.task < length ts.tasks
     a_part = omega (arith, entry_task w.walk more is, w.walk.all.keeps.n_tasks)
+
+    -- its job is one of few
+    pub few_numbers : get_or next e.task 0 + 1 < 4294967296
+    few_numbers = omega (arith, few_started w.walk more is, w.numbers e.task)
 
     -- the instant of decision, and whether a forced idle is before the entry
     abbrev instant : ℕ

@@ -9,14 +9,14 @@ use Rattle.rules.specs.Priority.{setting}
 use Rattle.rules.specs.Irregularities.{forced_idles}
 use Rattle.rules.specs.Judging.{tables}
 use Rattle.rules.proofs.Writable.{entries_few, its_idles_rise, idles_few, inversions_few}
-use Rattle.sets.specs.Kept.{Rows}
+use Rattle.sets.specs.declared.Kept.{Kept}
 use Rattle.sets.proofs.SetKept.{kept_good}
 use Rattle.timetables.specs.Judged.{entries_behind, EntriesValid}
 use Rattle.timetables.specs.Counted.{task_inversions}
 use Rattle.timetables.proofs.ValidTurns.{no_set_fault, all_valid}
 use Rattle.derivation.proofs.ByTask.{own_few}
 
-module _ {ts : Set} {bytes : List ℕ} {kept : Rows} {listed : ℕ} (v : EntriesValid ts bytes kept listed) where
+module _ {ts : Set} {bytes : List ℕ} {kept : Kept} {listed : ℕ} (v : EntriesValid ts bytes kept listed) where
   abbrev τ : List Entry
   τ = entries_behind bytes ts listed
 

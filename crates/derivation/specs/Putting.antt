@@ -9,7 +9,7 @@ use Rattle.rules.specs.Setting.{Tables}
 use Rattle.rules.specs.Judging.{tables}
 use Rattle.rules.specs.Marks.{Mark, ID, PV, size, head_length_of}
 use Rattle.rules.specs.Image.{record_of, of_idle, of_inversion, head_length}
-use Rattle.sets.specs.Kept.{Rows}
+use Rattle.sets.specs.declared.Kept.{Kept}
 use Rattle.writing.specs.Writing.{put_at, record_put}
 use Rattle.timetables.specs.declared.Counts.{Counts}
 use Rattle.timetables.specs.Judged.{entries_behind, EntriesValid}
@@ -59,7 +59,7 @@ abbrev pub tables_put : List ℕ → Set → Tables → List ℕ
 tables_put old ts X = put_at old (head_length ts) (tables_bytes X.idles X.inversions)
 
 -- tables that are counted, and room for them
-pub record CanPut (ts : Set) (bytes : List ℕ) (kept : Rows) (listed : ℕ) (c : Counts) (out : List ℕ) : Type 0 where
+pub record CanPut (ts : Set) (bytes : List ℕ) (kept : Kept) (listed : ℕ) (c : Counts) (out : List ℕ) : Type 0 where
   pub valid : EntriesValid ts bytes kept listed
   pub counted : Counted ts (entries_behind bytes ts listed) c
   pub room : head_length ts + c.idles * size ID + c.inversions * size PV ≤ length out

@@ -9,9 +9,9 @@ ghost use Rattle.rules.specs.Operations.{Derives};
 ghost use Rattle.timetables.specs.Instants.{idles_before, inverts};
 ghost use Rattle.derivation.specs.Putting.{FewCounted, PartsBegin, IdlePut, InversionPut, tables_put, tables_behind, CanPut};
 
-use images::{END_SIZE, ENTRY_SIZE, IDLE_SIZE, INVERSION_SIZE};
-use rules::{Entry, Idle, Inversion, MakeAnswer, TOO_LONG};
-use sets::{FIGURES, FIRST, PERIODS, TASKS, TIMES};
+use images::{END_SIZE, ENTRY_SIZE, End, IDLE_SIZE, INVERSION_SIZE, Kind};
+use rules::{Entry, Idle, Inversion, Located, TOO_LONG};
+use sets::Kept;
 use timetables::Counts;
 
 // The byte offset of each task's first PV record, behind the set and the idles.
@@ -22,11 +22,9 @@ fn first_offsets(n: u32, c: Counts) -> [usize; 16]
     let many = n as usize;
     let mut offsets = [0usize; 16];
     let mut at = images::head_length(many) + c.idles * IDLE_SIZE;
-    let mut i: usize = 0;
-    while i < many {
+    for i in 0..many {
         offsets[i] = at;
         at += c.each[i] * INVERSION_SIZE;
-        i += 1;
     }
     offsets
 }
@@ -50,7 +48,7 @@ fn put_idle(
         return place;
     }
     let now = timetables::instant(n, release, free);
-    writing::put_idle(
+    writing::put(
         out,
         place,
         Idle {
@@ -73,7 +71,7 @@ fn put_inversion(out: &mut [u8], place: usize, release: &[u32; 16], job: u32, e:
     if !timetables::lower_waits(release, i, e.start) {
         return place;
     }
-    writing::put_inversion(
+    writing::put(
         out,
         place,
         Inversion {
@@ -86,53 +84,52 @@ fn put_inversion(out: &mut [u8], place: usize, release: &[u32; 16], job: u32, e:
 }
 
 // The ID records one behind the other, and each PV record at its own task's place.
-fn put_irregularities(image: &[u8], kept: &[[u32; 16]; 6], listed: usize, c: Counts, out: &mut [u8])
+fn put_irregularities(image: &[u8], kept: &Kept, listed: usize, c: Counts, out: &mut [u8])
     requires { (ts : Set) × CanPut ts image.now kept.now listed c out.old }
     ensures { (ts : Set) → CanPut ts image.now kept.now listed c out.old →
         out.new ≡ tables_put out.old ts (tables_behind image.now ts listed) }
 {
-    let n = kept[FIGURES][TASKS] as usize;
-    let mut release = kept[FIRST];
+    let n = kept.tasks as usize;
+    let mut release = kept.first;
     let mut next = [0u32; 16];
     let mut free: u32 = 0;
     let mut idle_at = images::head_length(n);
-    let mut offsets = first_offsets(kept[FIGURES][TASKS], c);
+    let mut offsets = first_offsets(kept.tasks, c);
     let mut at = images::head_length(n);
-    let mut j: usize = 0;
-    while j < listed {
-        let e = images::entry_at(image, at);
+    for _entry in 0..listed {
+        let e = images::read::<Entry>(image, at);
         let i = e.task as usize;
         idle_at = put_idle(out, idle_at, n, &release, free, e);
         offsets[i] = put_inversion(out, offsets[i], &release, next[i], e);
         next[i] += 1;
-        release[i] += kept[PERIODS][i];
-        free = e.start + kept[TIMES][i];
+        release[i] += kept.periods[i];
+        free = e.start + kept.times[i];
         at += ENTRY_SIZE;
-        j += 1;
     }
 }
 
 // Deriving: the table image of a timetable image at the front of the output, and nothing else changed.
-pub fn derive(image: &[u8], out: &mut [u8]) -> MakeAnswer
+pub fn derive(image: &[u8], out: &mut [u8]) -> Result<usize, Located>
     ensures { Derives image.now out.old result out.new }
 {
-    let mut kept = [[0u32; 16]; 6];
-    let t = timetables::judge(image, true, &mut kept);
-    if t.refusal.number != 0 {
-        let r = t.refusal;
-        return MakeAnswer::Refused(r);
-    }
-    let s = t.set;
+    let mut kept = Kept::unfilled([0u32; 16]);
+    let t = timetables::judge(image, true, &mut kept)?;
+    let n = t.set.n as usize;
     let c = t.counts;
-    let n = s.n as usize;
     let end = images::head_length(n) + c.idles * IDLE_SIZE + c.inversions * INVERSION_SIZE;
     let length = end + END_SIZE;
     if out.len() < length {
-        return MakeAnswer::Refused(TOO_LONG);
+        return Err(TOO_LONG);
     }
-    writing::put_set(out, 2, s);
+    writing::put_set(out, Kind::Tables, t.set);
     put_irregularities(image, &kept, t.listed, c, out);
     let before = images::head_count(n) + c.idles + c.inversions;
-    writing::put_end(out, end, before as u32);
-    MakeAnswer::Made(length)
+    writing::put(
+        out,
+        end,
+        End {
+            before: before as u32,
+        },
+    );
+    Ok(length)
 }

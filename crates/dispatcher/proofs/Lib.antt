@@ -1,5 +1,4 @@
 pub mod Zeros
-pub mod Slots
 pub mod Lent
 pub mod StoredStarts
 pub mod Measuring

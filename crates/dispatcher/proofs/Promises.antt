@@ -6,12 +6,10 @@ use mathlib.Core.List.{List}
 use Prim.Native.Nat.{ℕ, suc, ◌≤◌, ◌<◌}
 use Rattle.fields.specs.Number.{Bytes}
 use Rattle.rules.specs.declared.Located.{Located}
-use Rattle.rules.specs.declared.Start.{Start as StartOf}
-use Rattle.rules.specs.declared.StartAnswer.{StartAnswer}
-use Rattle.rules.specs.declared.StartAnswer.TheVariants as start_case
-use Rattle.rules.specs.declared.CheckAnswer.TheVariants as check_case
+use Rattle.rules.specs.declared.Start.{Start}
 use Rattle.rules.specs.declared.Dispatcher.{Dispatcher as State}
 use Rattle.rules.specs.declared.Turn.{Turn}
+use Rattle.std.specs.Prelude.{Result, Ok, Err}
 use Rattle.rules.specs.Tasks.{Set}
 use Rattle.rules.specs.Refusals.{First}
 use Rattle.rules.specs.Operations.{check_tables}
@@ -30,12 +28,12 @@ pub one_turn : (bytes : List ℕ) (d : State) (end : ℕ) (a b : Turn) → GoneO
 one_turn bytes d end a b p q = p ∙ sym q
 
 -- in place: the answer, and the state behind the reference, are a result that meets the contract of beginning
-pub begun_in_place : (bytes : List ℕ) (answer : StartAnswer) (after : State) → BegunInPlace bytes answer after →
+pub begun_in_place : (bytes : List ℕ) (answer : Result Start Located) (after : State) → BegunInPlace bytes answer after →
     Begun bytes (record { answer = answer; state = after })
 begun_in_place bytes answer after met = λ i. record { answer = met.its_answer i; state = met.its_state i }
 
 -- or of going on; so all that follows is of calls in place too
-pub gone_on_in_place : (bytes : List ℕ) (d : State) (end : ℕ) (answer : StartAnswer) (after : State) →
+pub gone_on_in_place : (bytes : List ℕ) (d : State) (end : ℕ) (answer : Result Start Located) (after : State) →
     GoneOnInPlace bytes d end answer after → GoneOn bytes d end (record { answer = answer; state = after })
 gone_on_in_place bytes d end answer after met = λ i. record { answer = met.its_answer i; state = met.its_state i }
 
@@ -43,11 +41,11 @@ gone_on_in_place bytes d end answer after met = λ i. record { answer = met.its_
 
 module _ (bytes : List ℕ) (turn : Turn) (begun : Begun bytes turn) where
   -- beginning refuses exactly as table checking does, and hands back the stopped state
-  pub beginning_refuses : (r : Located) → check_tables bytes ≡ check_case.Refused r → turn ≡ refused r stopped
+  pub beginning_refuses : (r : Located) → check_tables bytes ≡ Err r → turn ≡ refused r stopped
   beginning_refuses r e = begun ∙ book.beginning_refuses bytes r e
 
   -- an image that table checking accepts is begun with a start
-  pub beginning_starts : Bytes bytes → check_tables bytes ≡ check_case.Accepted → (s : StartOf) × (turn.answer ≡ start_case.Start s)
+  pub beginning_starts : Bytes bytes → check_tables bytes ≡ Ok tt → (s : Start) × (turn.answer ≡ Ok s)
   beginning_starts b e = let w = book.beginning_starts bytes b e in (w.0, ap (λ (t : Turn). t.answer) begun ∙ w.1)
 
 -- DEMAND 1: of every result that meets the contract of going on
@@ -58,7 +56,7 @@ module _ (bytes : List ℕ) (d : State) (end : ℕ) (turn : Turn) (gone-on : Gon
   going_on_order = rw gone-on (book.going_on_order bytes d end)
 
   -- the number is one of 21 to 25, place and offset 0, and the state is the one that the number leaves
-  pub going_on_leaves : (r : Located) → turn.answer ≡ start_case.Refused r →
+  pub going_on_leaves : (r : Located) → turn.answer ≡ Err r →
       (21 ≤ r.number) × (r.number ≤ 25) × (r.place ≡ 0) × (r.offset ≡ 0) × Leaves d r.number turn.state
   going_on_leaves r e = rw gone-on (book.going_on_leaves bytes d end r (sym (ap (λ (t : Turn). t.answer) gone-on) ∙ e))
 
@@ -74,11 +72,11 @@ module _ (bytes : List ℕ) (ts : Set) where
   begins_a_log = begun
 
   -- one that is given an honest end goes on
-  pub goes_on : {k : ℕ} {s : StartOf} {d : State} {turn : Turn} → Log bytes ts k (start_case.Start s) d → (end : ℕ) → Honest ts s end →
+  pub goes_on : {k : ℕ} {s : Start} {d : State} {turn : Turn} → Log bytes ts k (Ok s) d → (end : ℕ) → Honest ts s end →
       GoneOn bytes d end turn → Log bytes ts (suc k) turn.answer turn.state
   goes_on = went_on
 
   -- one that is given an end before the start stays where it is
-  pub stays : {k : ℕ} {s : StartOf} {d : State} {turn : Turn} → Log bytes ts k (start_case.Start s) d → (end : ℕ) → end < s.time →
-      GoneOn bytes d end turn → Log bytes ts k (start_case.Start s) turn.state
+  pub stays : {k : ℕ} {s : Start} {d : State} {turn : Turn} → Log bytes ts k (Ok s) d → (end : ℕ) → end < s.time →
+      GoneOn bytes d end turn → Log bytes ts k (Ok s) turn.state
   stays = too_early

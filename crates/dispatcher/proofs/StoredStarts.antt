@@ -7,12 +7,15 @@ use native.Mathlib.Omega.{arith}
 use lib.ListN.{length, set, length-set}
 use lib.Seq.{set-append_left}
 use Rattle.fields.specs.Body.{head₀, tail₀}
-use Rattle.rules.specs.declared.StartAnswer.{StartAnswer}
+use Rattle.rules.specs.declared.Running.{Running}
 use Rattle.rules.specs.declared.Dispatcher.{Dispatcher as State}
 use Rattle.rules.specs.declared.Turn.{Turn}
-use Rattle.rules.specs.Priority.{slot}
+use Rattle.std.specs.Prelude.{Result, Err}
+use Rattle.rules.specs.declared.Located.{Located}
+use Rattle.rules.specs.declared.Start.{Start}
+use Rattle.rules.specs.Priority.{slot, start_job}
 use Rattle.rules.specs.Offsets.{put_slot}
-use Rattle.rules.specs.Dispatcher.{task_numbers, numbers, front, Shaped, number_count}
+use Rattle.rules.specs.Dispatcher.{task_numbers, numbers, front, Shaped, number_count, stopped, refused}
 use Rattle.rules.specs.Dispatcher.{next_position, cycle_position, task_position, job_position, start_position, idle_position, inversions_position, first_idle_position, first_inversions_position}
 use Rattle.rules.proofs.Arrays.{slot_element}
 use Rattle.rules.proofs.PriorityLaws.{slot_empty}
@@ -23,7 +26,6 @@ use Rattle.numbers.proofs.FilledSlots.{in_slot}
 use Rattle.numbers.proofs.StateNumbers.{numbers_of_state, state_shaped, state_of_numbers}
 use Rattle.decision.specs.declared.Found.{Found}
 use Rattle.dispatcher.specs.Stored.{in_next_cycle, with_start, TurnStored}
-use Rattle.dispatcher.proofs.Slots.{put_next}
 use Rattle.dispatcher.proofs.Lent.{next_lent}
 
 -- one slot more of the numbers in front
@@ -31,43 +33,48 @@ front_put : (i : ℕ) (a b : List ℕ) → put_slot (front i a b) i (slot a i) �
 front_put zero a b = refl
 front_put (suc i) a b = ap (λ (x : List ℕ). head₀ a ∷ x) (front_put i (tail₀ a) (tail₀ b))
 
--- a state with one other number
-abbrev with_next : State → ℕ → ℕ → State
-with_next d i v =
-    record { set = d.set; next = put_slot d.next i v; cycle = d.cycle; running = d.running; now = d.now; first = d.first }
+-- a start counts its task's next job number up by one
+pub put_next : (x : List ℕ) (i : ℕ) → put_slot x i (slot x i + 1) ≡ start_job x i
+put_next x zero = rw (add-one (head₀ x))
+put_next x (suc i) = ap (λ (y : List ℕ). head₀ x ∷ y) (put_next (tail₀ x) i)
 
-abbrev with_cycle : State → ℕ → State
-with_cycle d v = record { set = d.set; next = d.next; cycle = v; running = d.running; now = d.now; first = d.first }
-
-abbrev with_running : State → ℕ → ℕ → ℕ → State
-with_running d t j s = record {
+-- a state with other next job numbers, another cycle, another running job and other offsets
+abbrev other : State → List ℕ → ℕ → Running → ℕ → List ℕ → State
+other d next cycle running idle inversions = record {
   set = d.set;
-  next = d.next;
-  cycle = d.cycle;
-  running = record { task = t; job = j; start = s };
-  now = d.now;
+  next = next;
+  cycle = cycle;
+  running = running;
+  now = record { idle = idle; inversions = inversions };
   first = d.first;
 }
 
-abbrev with_idle : State → ℕ → State
-with_idle d v = record {
-  set = d.set;
-  next = d.next;
-  cycle = d.cycle;
-  running = d.running;
-  now = record { idle = v; inversions = d.now.inversions };
-  first = d.first;
-}
+-- and one with one other number
+abbrev with_next : ℕ → ℕ → State → State
+with_next i v d = other d (put_slot d.next i v) d.cycle d.running d.now.idle d.now.inversions
 
-abbrev with_inversion : State → ℕ → ℕ → State
-with_inversion d i v = record {
-  set = d.set;
-  next = d.next;
-  cycle = d.cycle;
-  running = d.running;
-  now = record { idle = d.now.idle; inversions = put_slot d.now.inversions i v };
-  first = d.first;
-}
+abbrev with_cycle : ℕ → State → State
+with_cycle v d = other d d.next v d.running d.now.idle d.now.inversions
+
+abbrev with_task : ℕ → State → State
+with_task v d = other d d.next d.cycle (record { task = v; job = d.running.job; start = d.running.start }) d.now.idle d.now.inversions
+
+abbrev with_job : ℕ → State → State
+with_job v d = other d d.next d.cycle (record { task = d.running.task; job = v; start = d.running.start }) d.now.idle d.now.inversions
+
+abbrev with_start_at : ℕ → State → State
+with_start_at v d = other d d.next d.cycle (record { task = d.running.task; job = d.running.job; start = v }) d.now.idle d.now.inversions
+
+abbrev with_idle : ℕ → State → State
+with_idle v d = other d d.next d.cycle d.running v d.now.inversions
+
+abbrev with_inversion : ℕ → ℕ → State → State
+with_inversion i v d = other d d.next d.cycle d.running d.now.idle (put_slot d.now.inversions i v)
+
+-- with as many slots it is shaped as before
+still : {d : State} {next inversions : List ℕ} {cycle idle : ℕ} {running : Running} → Shaped d → length next ≡ length d.next →
+    length inversions ≡ length d.now.inversions → Shaped (other d next cycle running idle inversions)
+still w e f = record { tasks = w.tasks; next = e ∙ w.next; now = f ∙ w.now; first = w.first }
 
 -- a number stored in what comes behind a part
 set_behind : (x y : List ℕ) (p k v : ℕ) → p ≡ length x + k → set (x ++ y) p v ≡ x ++ set y k v
@@ -84,17 +91,17 @@ put_length : (x : List ℕ) (i v : ℕ) → i < length x → length (put_slot x 
 put_length x i v l = ap length (sym (put_stores x i v l)) ∙ length-set x i v
 
 -- a number stored among those of a state, part by part
-module _ (d : State) (w : Shaped d) (v : ℕ) where
+module _ (v : ℕ) (d : State) (w : Shaped d) where
   -- the numbers of the tasks, and those behind the next job numbers
   abbrev tasks : List ℕ
   tasks = task_numbers d.set.tasks
 
-  abbrev others : List ℕ
-  others = d.first.idle ∷ d.first.inversions
+  abbrev firsts : List ℕ
+  firsts = d.first.idle ∷ d.first.inversions
 
   abbrev behind : List ℕ
   behind =
-      d.cycle ∷ d.running.task ∷ d.running.job ∷ d.running.start ∷ d.now.idle ∷ (d.now.inversions ++ others)
+      d.cycle ∷ d.running.task ∷ d.running.job ∷ d.running.start ∷ d.now.idle ∷ (d.now.inversions ++ firsts)
 
   -- behind the set
   behind_set : (k : ℕ) → set (numbers d) (next_position + k) v ≡ d.set.n ∷ (tasks ++ set (d.next ++ behind) k v)
@@ -112,145 +119,133 @@ module _ (d : State) (w : Shaped d) (v : ℕ) where
       ∙ ap (λ (x : List ℕ). d.set.n ∷ (tasks ++ x)) (set_behind d.next behind (length d.next + k) k v refl)
 
   -- a next job number, and a task's offset
-  next_put : (i : ℕ) → i < 16 → set (numbers d) (next_position + i) v ≡ numbers (with_next d i v)
+  next_put : (i : ℕ) → i < 16 → set (numbers d) (next_position + i) v ≡ numbers (with_next i v d)
   next_put i l = behind_set i ∙ ap (λ (x : List ℕ). d.set.n ∷ (tasks ++ x)) (set_inside d.next behind i v (omega (arith, w)))
 
-  inversion_put : (i : ℕ) → i < 16 → set (numbers d) (inversions_position + i) v ≡ numbers (with_inversion d i v)
+  inversion_put : (i : ℕ) → i < 16 → set (numbers d) (inversions_position + i) v ≡ numbers (with_inversion i v d)
   inversion_put i l =
       behind_next (suc (suc (suc (suc (suc i))))) (inversions_position + i) (omega arith)
       ∙ ap
       (λ (x : List ℕ).
       d.set.n
       ∷ (tasks ++ (d.next ++ (d.cycle ∷ d.running.task ∷ d.running.job ∷ d.running.start ∷ d.now.idle ∷ x))))
-      (set_inside d.now.inversions others i v (omega (arith, w)))
+      (set_inside d.now.inversions firsts i v (omega (arith, w)))
+
+-- lent numbers that are a state's
+pub record Holds (lent : List ℕ) (d : State) : Type 0 where
+  pub long : length lent ≡ number_count
+  pub is : state_from lent ≡ d
 
 -- a number stored at its place is that of the state
-module _ (lent : List ℕ) (long : length lent ≡ number_count) (v : ℕ) where
-  abbrev d : State
-  d = state_from lent
-
-  abbrev w : Shaped d
-  w = state_shaped lent
-
-  stored : (p : ℕ) (e : State) → Shaped e → set (numbers d) p v ≡ numbers e → state_from (set lent p v) ≡ e
-  stored p e shaped is = ap (λ (x : List ℕ). state_from (set x p v)) (sym (numbers_of_state lent long)) ∙ ap state_from is ∙ state_of_numbers e shaped
+module _ {lent : List ℕ} {d : State} (h : Holds lent d) (v : ℕ) where
+  stored : (p : ℕ) (change : State → State) → ((e : State) → Shaped e → (set (numbers e) p v ≡ numbers (change e)) × Shaped (change e)) →
+      Holds (set lent p v) (change d)
+  stored p change puts =
+      let put = puts (state_from lent) (state_shaped lent) in
+      record {
+        long = length-set lent p v ∙ h.long;
+        is = ap (λ (x : List ℕ). state_from (set x p v)) (sym (numbers_of_state lent h.long))
+            ∙ ap state_from put.0
+            ∙ state_of_numbers (change (state_from lent)) put.1
+            ∙ ap change h.is;
+      }
 
   -- a next job number
-  next_stored : (i : ℕ) → i < 16 → state_from (set lent (next_position + i) v) ≡ with_next d i v
+  next_stored : (i : ℕ) → i < 16 → Holds (set lent (next_position + i) v) (with_next i v d)
   next_stored i l =
-      stored (next_position + i) _
-      (record { tasks = w.tasks; next = put_length d.next i v (omega (arith, w)) ∙ w.next; now = w.now; first = w.first })
-      (next_put d w v i l)
+      stored (next_position + i) (with_next i v) (λ e w. (next_put v e w i l, still w (put_length e.next i v (omega (arith, w))) refl))
 
   -- a task's offset
-  inversion_stored : (i : ℕ) → i < 16 → state_from (set lent (inversions_position + i) v) ≡ with_inversion d i v
+  inversion_stored : (i : ℕ) → i < 16 → Holds (set lent (inversions_position + i) v) (with_inversion i v d)
   inversion_stored i l =
-      stored (inversions_position + i) _
-      (record { tasks = w.tasks; next = w.next; now = put_length d.now.inversions i v (omega (arith, w)) ∙ w.now; first = w.first })
-      (inversion_put d w v i l)
+      stored (inversions_position + i) (with_inversion i v)
+      (λ e w. (inversion_put v e w i l, still w refl (put_length e.now.inversions i v (omega (arith, w)))))
 
   -- the cycle
-  cycle_stored : state_from (set lent cycle_position v) ≡ with_cycle d v
-  cycle_stored =
-      stored cycle_position _ (record { tasks = w.tasks; next = w.next; now = w.now; first = w.first }) (behind_next d w v 0 cycle_position refl)
+  cycle_stored : Holds (set lent cycle_position v) (with_cycle v d)
+  cycle_stored = stored cycle_position (with_cycle v) (λ e w. (behind_next v e w 0 cycle_position refl, still w refl refl))
 
   -- the running job's task, its number, its start
-  task_stored : state_from (set lent task_position v) ≡ with_running d v d.running.job d.running.start
-  task_stored = stored task_position _ (record { tasks = w.tasks; next = w.next; now = w.now; first = w.first }) (behind_next d w v 1 task_position refl)
+  task_stored : Holds (set lent task_position v) (with_task v d)
+  task_stored = stored task_position (with_task v) (λ e w. (behind_next v e w 1 task_position refl, still w refl refl))
 
-  job_stored : state_from (set lent job_position v) ≡ with_running d d.running.task v d.running.start
-  job_stored = stored job_position _ (record { tasks = w.tasks; next = w.next; now = w.now; first = w.first }) (behind_next d w v 2 job_position refl)
+  job_stored : Holds (set lent job_position v) (with_job v d)
+  job_stored = stored job_position (with_job v) (λ e w. (behind_next v e w 2 job_position refl, still w refl refl))
 
-  start_stored : state_from (set lent start_position v) ≡ with_running d d.running.task d.running.job v
-  start_stored = stored start_position _ (record { tasks = w.tasks; next = w.next; now = w.now; first = w.first }) (behind_next d w v 3 start_position refl)
+  start_stored : Holds (set lent start_position v) (with_start_at v d)
+  start_stored = stored start_position (with_start_at v) (λ e w. (behind_next v e w 3 start_position refl, still w refl refl))
 
   -- the ID offset
-  idle_stored : state_from (set lent idle_position v) ≡ with_idle d v
-  idle_stored = stored idle_position _ (record { tasks = w.tasks; next = w.next; now = w.now; first = w.first }) (behind_next d w v 4 idle_position refl)
+  idle_stored : Holds (set lent idle_position v) (with_idle v d)
+  idle_stored = stored idle_position (with_idle v) (λ e w. (behind_next v e w 4 idle_position refl, still w refl refl))
 
 -- one task more is at the start of the next cycle
-pub one_task_more : (d : State) (lent : List ℕ) (i : ℕ) → length lent ≡ number_count → i < 16 → state_from lent ≡ in_next_cycle d i →
-    state_from (set (set lent (next_position + i) 0) (inversions_position + i) (number_at (set lent (next_position + i) 0) (first_inversions_position + i)))
-    ≡ in_next_cycle d (i + 1)
-one_task_more d lent i long l is =
+pub one_task_more : (d : State) {lent : List ℕ} (i : ℕ) → i < 16 → Holds lent (in_next_cycle d i) →
+    Holds (set (set lent (next_position + i) 0) (inversions_position + i) (number_at (set lent (next_position + i) 0) (first_inversions_position + i)))
+    (in_next_cycle d (i + 1))
+one_task_more d {lent} i l h =
     let next = set lent (next_position + i) 0 in
     let offset = number_at next (first_inversions_position + i) in
-    let next-long : length next ≡ number_count = length-set lent (next_position + i) 0 ∙ long in
-    let next_is : state_from next ≡ with_next (in_next_cycle d i) i 0 = next_stored lent long 0 i l ∙ ap (λ (e : State). with_next e i 0) is in
-    let offset-is : offset ≡ slot d.first.inversions i =
+    let first_job = next_stored h 0 i l in
+    let first_offset = inversion_stored first_job offset i l in
+    let offset_is : offset ≡ slot d.first.inversions i =
     sym (slot_element _ i ∙ in_slot (λ (k : ℕ). number_at next (first_inversions_position + k)) 0 i l)
-    ∙ ap (λ (e : State). slot e.first.inversions i) next_is in
+    ∙ ap (λ (e : State). slot e.first.inversions i) first_job.is in
     let jobs : put_slot (front i [] d.next) i 0 ≡ front (suc i) [] d.next =
     ap (put_slot (front i [] d.next) i) (sym (slot_empty i)) ∙ front_put i [] d.next in
     let begun = front i d.first.inversions d.now.inversions in
     let offsets : put_slot begun i offset ≡ front (suc i) d.first.inversions d.now.inversions =
-    ap (put_slot begun i) offset-is ∙ front_put i d.first.inversions d.now.inversions in
-    inversion_stored next next-long offset i l
-    ∙ ap (λ (e : State). with_inversion e i offset) next_is
-    ∙ rw (jobs, offsets, add-one i)
+    ap (put_slot begun i) offset_is ∙ front_put i d.first.inversions d.now.inversions in
+    record { long = first_offset.long; is = first_offset.is ∙ rw (jobs, offsets, add-one i) }
 
 -- the cycle is counted and the ID offset is the first one, and no task is at the cycle's start yet
 pub cycle_counted : (lent : List ℕ) → length lent ≡ number_count →
-    state_from (set (set lent cycle_position (number_at lent cycle_position + 1)) idle_position (number_at (set lent cycle_position (number_at lent cycle_position + 1)) first_idle_position))
-    ≡ in_next_cycle (state_from lent) 0
+    Holds
+    (set (set lent cycle_position (number_at lent cycle_position + 1)) idle_position (number_at (set lent cycle_position (number_at lent cycle_position + 1)) first_idle_position))
+    (in_next_cycle (state_from lent) 0)
 cycle_counted lent long =
-    let counted = set lent cycle_position (number_at lent cycle_position + 1) in
-    let counted_is : state_from counted ≡ with_cycle (state_from lent) (suc (number_at lent cycle_position)) =
-    cycle_stored lent long _ ∙ ap (with_cycle (state_from lent)) (add-one (number_at lent cycle_position)) in
-    idle_stored counted (length-set lent cycle_position (number_at lent cycle_position + 1) ∙ long) _
-    ∙ ap (λ (d : State). with_idle d d.first.idle) counted_is
+    let counted = cycle_stored (record { long = long; is = refl }) (number_at lent cycle_position + 1) in
+    let first_idle : number_at (set lent cycle_position (number_at lent cycle_position + 1)) first_idle_position ≡ (state_from lent).first.idle =
+    ap (λ (d : State). d.first.idle) counted.is in
+    let begun = idle_stored counted (number_at (set lent cycle_position (number_at lent cycle_position + 1)) first_idle_position) in
+    record { long = begun.long; is = begun.is ∙ rw (first_idle, add-one (number_at lent cycle_position)) }
 
 -- all that a start stores
 abbrev after_start : List ℕ → Found → List ℕ
 after_start lent f =
-    set
-    (set
-    (set
-    (set (set (set lent (next_position + f.task) (number_at lent (next_position + f.task) + 1)) task_position f.task) job_position (number_at lent (next_position + f.task)))
-    start_position
-    f.start)
-    idle_position
-    f.idle)
-    (inversions_position + f.task)
-    f.inversion
+    let i = f.task in
+    let job = number_at lent (next_position + i) in
+    let running = set (set (set (set lent (next_position + i) (job + 1)) task_position i) job_position job) start_position f.start in
+    set (set running idle_position f.idle) (inversions_position + i) f.inversion
 
 -- the state has the start then
-pub start_made : (lent : List ℕ) (f : Found) → length lent ≡ number_count → f.task < 16 →
-    (state_from (after_start lent f) ≡ with_start (state_from lent) f) × (length (after_start lent f) ≡ number_count)
+pub start_made : (lent : List ℕ) (f : Found) → length lent ≡ number_count → f.task < 16 → Holds (after_start lent f) (with_start (state_from lent) f)
 start_made lent f long l =
     let i = f.task in
     let job = number_at lent (next_position + i) in
-    let a = set lent (next_position + i) (job + 1) in
-    let b = set a task_position i in
-    let c = set b job_position job in
-    let d = set c start_position f.start in
-    let e = set d idle_position f.idle in
-    let a-long : length a ≡ number_count = length-set lent (next_position + i) (job + 1) ∙ long in
-    let b-long : length b ≡ number_count = length-set a task_position i ∙ a-long in
-    let c-long : length c ≡ number_count = length-set b job_position job ∙ b-long in
-    let d-long : length d ≡ number_count = length-set c start_position f.start ∙ c-long in
-    let e-long : length e ≡ number_count = length-set d idle_position f.idle ∙ d-long in
-    let a-is = next_stored lent long (job + 1) i l in
-    let b-is = task_stored a a-long i ∙ ap (λ (s : State). with_running s i s.running.job s.running.start) a-is in
-    let c-is = job_stored b b-long job ∙ ap (λ (s : State). with_running s s.running.task job s.running.start) b-is in
-    let d-is = start_stored c c-long f.start ∙ ap (λ (s : State). with_running s s.running.task s.running.job f.start) c-is in
-    let e-is = idle_stored d d-long f.idle ∙ ap (λ (s : State). with_idle s f.idle) d-is in (
-      inversion_stored e e-long f.inversion i l
-          ∙ ap (λ (s : State). with_inversion s i f.inversion) e-is
-          ∙ rw (next_lent lent i l, put_next (state_from lent).next i),
-      length-set e (inversions_position + i) f.inversion ∙ e-long,
-    )
+    let counted = next_stored (record { long = long; is = refl }) (job + 1) i l in
+    let running = start_stored (job_stored (task_stored counted i) job) f.start in
+    let all = inversion_stored (idle_stored running f.idle) f.inversion i l in
+    record { long = all.long; is = all.is ∙ rw (next_lent lent i l, put_next (state_from lent).next i) }
 
 -- a turn is stored where the answer and the state are right
-pub stored_turn : {turn : Turn} (answer : StartAnswer) (after : List ℕ) → answer ≡ turn.answer → length after ≡ number_count →
+pub stored_turn : {turn : Turn} (answer : Result Start Located) (after : List ℕ) → answer ≡ turn.answer → length after ≡ number_count →
     state_from after ≡ turn.state → TurnStored turn answer after
 stored_turn answer after told long is =
     record { its_answer = told; its_numbers = sym (numbers_of_state after long) ∙ ap numbers is; its_state = is }
 
 -- so is an equal turn
-pub stored_as : {turn other : Turn} {answer : StartAnswer} {after : List ℕ} → turn ≡ other → TurnStored turn answer after → TurnStored other answer after
+pub stored_as : {turn other : Turn} {answer : Result Start Located} {after : List ℕ} → turn ≡ other → TurnStored turn answer after → TurnStored other answer after
 stored_as e stored = record {
   its_answer = stored.its_answer ∙ ap (λ (t : Turn). t.answer) e;
   its_numbers = stored.its_numbers ∙ ap (λ (t : Turn). numbers t.state) e;
   its_state = stored.its_state ∙ ap (λ (t : Turn). t.state) e;
 }
+
+-- a refusal that leaves the state as it is, and one that stops it
+pub refused_kept : {turn : Turn} {r q : Located} {lent : List ℕ} → refused q (state_from lent) ≡ turn → length lent ≡ number_count → r ≡ q → TurnStored turn (Err r) lent
+refused_kept e long is = stored_as e (stored_turn _ _ (ap Err is) long refl)
+
+pub refused_stopped : {turn : Turn} {r q : Located} {answer : Result Start Located} {after : List ℕ} → refused q stopped ≡ turn → r ≡ q →
+    TurnStored (refused r stopped) answer after → TurnStored turn answer after
+refused_stopped e is stored = stored_as (ap (λ (x : Located). refused x stopped) is ∙ e) stored

@@ -1,10 +1,11 @@
 -- A turn as it is stored in a state's numbers, and the states on the way to it. Assumes nothing.
-use Rattle.std.specs.Prelude.{◌≡◌, List, [], ℕ, suc}
+use Rattle.std.specs.Prelude.{◌≡◌, List, [], ℕ, suc, Result}
 use Rattle.rules.specs.declared.TaskSet.{TaskSet}
 use Rattle.rules.specs.declared.Offsets.{Offsets as OffsetsOf}
-use Rattle.rules.specs.declared.StartAnswer.{StartAnswer}
 use Rattle.rules.specs.declared.Dispatcher.{Dispatcher as State}
 use Rattle.rules.specs.declared.Turn.{Turn}
+use Rattle.rules.specs.declared.Located.{Located}
+use Rattle.rules.specs.declared.Start.{Start}
 use Rattle.rules.specs.Priority.{slot, start_job}
 use Rattle.rules.specs.Offsets.{put_slot, standing}
 use Rattle.rules.specs.Dispatcher.{numbers, front, zeros, start_next}
@@ -49,7 +50,7 @@ abbrev pub start_from : List ℕ → State → ℕ → Turn
 start_from bytes d free = start_next bytes d d.cycle (standing d.next free d.now.inversions d.now.idle)
 
 -- a turn as it is stored: its answer is told, the numbers are those of its state, and its state is what they are
-pub record TurnStored (turn : Turn) (answer : StartAnswer) (lent : List ℕ) : Type 0 where
+pub record TurnStored (turn : Turn) (answer : Result Start Located) (lent : List ℕ) : Type 0 where
   pub its_answer : answer ≡ turn.answer
   pub its_numbers : lent ≡ numbers turn.state
   pub its_state : state_from lent ≡ turn.state

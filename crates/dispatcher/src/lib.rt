@@ -2,27 +2,23 @@
 // reported end. Every start, the first one, one in a cycle and one as a cycle begins, is looked for and stored in one place.
 #![tactic(auto)]
 
-ghost use Rattle.std.specs.Prelude.{◌≡◌, ◌+◌, ◌*◌, ◌≤◌, ◌<◌, length};
-ghost use Rattle.rules.specs.declared.StartAnswer.TheVariants.{Refused};
+ghost use Rattle.std.specs.Prelude.{◌≡◌, ◌+◌, ◌*◌, ◌≤◌, ◌<◌, length, Err};
 ghost use Rattle.rules.specs.Refusals.{refusal, of_no_image};
 ghost use Rattle.rules.specs.Dispatcher as book;
 ghost use Rattle.numbers.specs.Numbers.{number_at, state_from};
 ghost use Rattle.sets.specs.Kept.{tasks_in};
 ghost use Rattle.dispatcher.specs.Stored.{fresh_state, in_next_cycle, with_start, start_from, TurnStored};
-ghost use Rattle.dispatcher.specs.Tested.{last_and_in_time, AllStarted};
+ghost use Rattle.dispatcher.specs.Tested.{last_and_in_time, running_task, AllStarted};
 ghost use Rattle.dispatcher.specs.Turns.{Begun, GoneOn, BegunInPlace, GoneOnInPlace, BegunNumbers, GoneOnNumbers};
 ghost use Rattle.dispatcher.specs.States.{WithGoodSet, CanMeasure, Measured, CanGoOn, CanStart};
 
-use decision::{Found, Front, NextStart};
+use decision::{Found, Front, Standing};
 use numbers::{
     CYCLE, FIRST_IDLE, FIRST_INVERSIONS, IDLE, INVERSIONS, JOB, NEXT, NUMBERS, START, TASK,
     TASK_NUMBERS,
 };
-use rules::{
-    Dispatcher, LARGEST, Located, Offsets, Running, SetAnswer, Start, StartAnswer, Task, TaskSet,
-    Turn,
-};
-use sets::{FIGURES, FIRST, HYPERPERIOD, JOBS, PERIODS, TASKS};
+use rules::{Dispatcher, LARGEST, Located, Offsets, Running, Start, Task, TaskSet, Turn};
+use sets::Kept;
 
 // The last cycle.
 const LAST_CYCLE: u32 = LARGEST;
@@ -32,53 +28,38 @@ fn is_stopped(numbers: &[u32]) -> bool
     requires { length numbers.now ≡ book.number_count }
     ensures { result ≡ book.is_stopped (state_from numbers.now) }
 {
-    let mut i: u32 = 0;
-    while i < (NUMBERS as u32) {
+    for i in 0..NUMBERS as u32 {
         if numbers[i as usize] != 0 {
             return false;
         }
-        i += 1;
     }
     true
 }
 
 // A refusal of going on: it names no record.
-fn refused(number: u32) -> StartAnswer
-    ensures { result ≡ Refused (of_no_image (refusal number 0)) }
+fn refusal(number: u32) -> Located
+    ensures { result ≡ of_no_image (refusal number 0) }
 {
-    StartAnswer::Refused(Located {
+    Located {
         number,
         place: 0,
         offset: 0,
-    })
+    }
 }
 
-// Those that stop: a state or bytes that are impossible, and an end that comes too late.
-const IMPOSSIBLE: Located = Located {
-    number: 25,
-    place: 0,
-    offset: 0,
-};
-
-const TOO_LATE: Located = Located {
-    number: 22,
-    place: 0,
-    offset: 0,
-};
-
 // A refusal that stops: all numbers of the state are 0 then.
-fn stop(numbers: &mut [u32; NUMBERS], r: Located) -> StartAnswer
+fn stop(numbers: &mut [u32; NUMBERS], r: Located) -> Result<Start, Located>
     ensures { TurnStored (book.refused r book.stopped) result numbers.new }
 {
     *numbers = [0u32; NUMBERS];
-    StartAnswer::Refused(r)
+    Err(r)
 }
 
 // The absolute time of an instant in a cycle of h ticks.
 fn absolute(cycle: u32, h: u32, at: u32) -> u64
     ensures { result ≡ cycle * h + at }
 {
-    (cycle as u64) * (h as u64) + (at as u64)
+    u64::from(cycle) * u64::from(h) + u64::from(at)
 }
 
 // Stores the start of a task's next job.
@@ -103,10 +84,10 @@ fn store_start(numbers: &mut [u32; NUMBERS], f: Found)
 fn start_next(
     image: &[u8],
     numbers: &mut [u32; NUMBERS],
-    kept: &[[u32; 16]; 6],
+    kept: &Kept,
     release: &[u32; 16],
     free: u32,
-) -> StartAnswer
+) -> Result<Start, Located>
     requires { CanStart numbers.old kept.now release.now free }
     ensures { TurnStored (start_from image.now (state_from numbers.old) free) result numbers.new }
 {
@@ -115,21 +96,24 @@ fn start_next(
         idle: numbers[IDLE],
     };
     let next = numbers::numbers_from(numbers, NEXT);
+    let release = numbers::numbers_from(release, 0);
     let offsets = numbers::numbers_from(numbers, INVERSIONS);
-    let mut at = [next, *release, offsets];
-    match replay::one_start(image, kept, &mut at, front) {
-        NextStart::Stuck(_) => stop(numbers, IMPOSSIBLE),
-        NextStart::Starts(f) => {
-            store_start(numbers, f);
-            let cycle = numbers[CYCLE];
-            StartAnswer::Start(Start {
-                task: f.task,
-                job: numbers[JOB],
-                cycle,
-                time: absolute(cycle, kept[FIGURES][HYPERPERIOD], f.start),
-            })
-        }
-    }
+    let mut at = Standing {
+        next,
+        release,
+        offsets,
+    };
+    let Ok(f) = replay::one_start(image, kept, &mut at, front) else {
+        return stop(numbers, refusal(25));
+    };
+    store_start(numbers, f);
+    let cycle = numbers[CYCLE];
+    Ok(Start {
+        task: f.task,
+        job: numbers[JOB],
+        cycle,
+        time: absolute(cycle, kept.hyperperiod, f.start),
+    })
 }
 
 // Begins the next cycle: next jobs 0 and offsets as at a cycle's start, of the n tasks; slots from n up stay.
@@ -140,46 +124,43 @@ fn begin_again(numbers: &mut [u32; NUMBERS], n: usize)
     ensures state { state_from numbers.new ≡ in_next_cycle (state_from numbers.old) n }
     ensures long { length numbers.new ≡ book.number_count }
 {
-    numbers[CYCLE] = numbers[CYCLE] + 1;
+    numbers[CYCLE] += 1;
     numbers[IDLE] = numbers[FIRST_IDLE];
-    let mut i: usize = 0;
-    while i < n {
+    for i in 0..n {
         numbers[NEXT + i] = 0;
         numbers[INVERSIONS + i] = numbers[FIRST_INVERSIONS + i];
-        i += 1;
     }
 }
 
 // Have all jobs of the cycle started: is no next release before its end?
-fn all_started(kept: &[[u32; 16]; 6], release: &[u32; 16]) -> bool
+fn all_started(kept: &Kept, release: &[u32; 16]) -> bool
     requires { tasks_in kept.now ≤ 16 }
     ensures { AllStarted kept.now release.now result }
 {
-    let n = kept[FIGURES][TASKS] as usize;
-    n <= sets::missing(n, kept[FIGURES][HYPERPERIOD], release)
+    let n = kept.tasks as usize;
+    sets::missing(n, kept.hyperperiod, release).is_none()
 }
 
 // The next job of this cycle, from a free instant, or, when all have started, the first of the next; 24 behind the last cycle.
 fn next_turn(
     image: &[u8],
     numbers: &mut [u32; NUMBERS],
-    kept: &[[u32; 16]; 6],
-    release: &mut [u32; 16],
+    kept: &Kept,
+    release: &[u32; 16],
     free: u32,
-) -> StartAnswer
-    requires { CanGoOn numbers.old kept.now release.old free }
+) -> Result<Start, Located>
+    requires { CanGoOn numbers.old kept.now release.now free }
     ensures { TurnStored (book.next_turn image.now (state_from numbers.old)) result numbers.new }
 {
-    let mut from = free;
-    if all_started(kept, release) {
+    let (release, from) = if all_started(kept, release) {
         if LAST_CYCLE <= numbers[CYCLE] {
-            return refused(24);
+            return Err(refusal(24));
         }
-        let n = kept[FIGURES][TASKS] as usize;
-        begin_again(numbers, n);
-        *release = kept[FIRST];
-        from = 0;
-    }
+        begin_again(numbers, kept.tasks as usize);
+        (&kept.first, 0)
+    } else {
+        (release, free)
+    };
     start_next(image, numbers, kept, release, from)
 }
 
@@ -187,87 +168,87 @@ fn next_turn(
 fn last_and_in_time(t: Task, next: u32, r: Running) -> bool
     ensures { result ≡ last_and_in_time t next r }
 {
-    if (next as u64) != (r.job as u64) + 1 {
-        return false;
-    }
-    if (r.start as u64) < sets::release(t, r.job) {
-        return false;
-    }
-    (r.start as u64) + (t.time as u64) <= sets::due(t, r.job)
+    u64::from(next) == u64::from(r.job) + 1
+        && sets::release(t, r.job) <= u64::from(r.start)
+        && u64::from(r.start) + u64::from(t.time) <= sets::due(t, r.job)
 }
 
-// The release of each task's next job. False where a next job number is above its task's jobs; then the releases are left as they came to be.
-fn measured(numbers: &[u32; NUMBERS], kept: &[[u32; 16]; 6], release: &mut [u32; 16]) -> bool
-    requires { CanMeasure numbers.now kept.now release.old }
-    ensures { Measured numbers.now kept.now result release.new }
+// The running job's task; none where it is not below n, or the job is not its last one started, or was not released when it started, or not in time.
+fn running_task(numbers: &[u32; NUMBERS]) -> Option<Task>
+    requires few { (state_from numbers.now).set.n ≤ 16 }
+    ensures { result ≡ running_task (state_from numbers.now) }
 {
-    let n = kept[FIGURES][TASKS];
-    let mut k: u32 = 0;
-    'tasks: loop {
-        if n <= k {
-            break 'tasks true;
-        }
-        let i = k as usize;
-        let next = numbers[NEXT + i];
-        if kept[JOBS][i] < next {
-            break 'tasks false;
-        }
-        release[i] = kept[FIRST][i] + next * kept[PERIODS][i];
-        k += 1;
-    }
-}
-
-// Going on with a state that is not stopped and whose set is good.
-fn go_on_good(
-    image: &[u8],
-    numbers: &mut [u32; NUMBERS],
-    kept: &[[u32; 16]; 6],
-    end: u64,
-) -> StartAnswer
-    requires { WithGoodSet numbers.old kept.now }
-    ensures { GoneOnNumbers image.now numbers.old end result numbers.new }
-{
-    let mut release = numbers::numbers_from(numbers, NEXT);
-    if !measured(numbers, kept, &mut release) {
-        return stop(numbers, IMPOSSIBLE);
-    }
     let running = Running {
         task: numbers[TASK],
         job: numbers[JOB],
         start: numbers[START],
     };
     if numbers[0] <= running.task {
-        return stop(numbers, IMPOSSIBLE);
+        return None;
     }
     let i = running.task as usize;
     let t = numbers::task_from(numbers, 1 + TASK_NUMBERS * i);
-    if !last_and_in_time(t, numbers[NEXT + i], running) {
-        return stop(numbers, IMPOSSIBLE);
+    last_and_in_time(t, numbers[NEXT + i], running).then_some(t)
+}
+
+// The release of each task's next job. False where a next job number is above its task's jobs; then the releases are left as they came to be.
+fn measured(numbers: &[u32; NUMBERS], kept: &Kept, release: &mut [u32; 16]) -> bool
+    requires { CanMeasure numbers.now kept.now release.old }
+    ensures { Measured numbers.now kept.now result release.new }
+{
+    let n = kept.tasks as usize;
+    for i in 0..n {
+        let next = numbers[NEXT + i];
+        if kept.jobs[i] < next {
+            return false;
+        }
+        release[i] = kept.first[i] + next * kept.periods[i];
     }
-    let began = absolute(numbers[CYCLE], kept[FIGURES][HYPERPERIOD], running.start);
+    true
+}
+
+// Going on with a state that is not stopped and whose set is good.
+fn go_on_good(
+    image: &[u8],
+    numbers: &mut [u32; NUMBERS],
+    kept: &Kept,
+    end: u64,
+) -> Result<Start, Located>
+    requires { WithGoodSet numbers.old kept.now }
+    ensures { GoneOnNumbers image.now numbers.old end result numbers.new }
+{
+    let mut release = numbers::numbers_from(numbers, NEXT);
+    if !measured(numbers, kept, &mut release) {
+        return stop(numbers, refusal(25));
+    }
+    let Some(t) = running_task(numbers) else {
+        return stop(numbers, refusal(25));
+    };
+    let start = numbers[START];
+    let began = absolute(numbers[CYCLE], kept.hyperperiod, start);
     if end < began {
-        return refused(21);
+        return Err(refusal(21));
     }
-    if (t.time as u64) < end - began {
-        return stop(numbers, TOO_LATE);
+    if u64::from(t.time) < end - began {
+        return stop(numbers, refusal(22));
     }
-    next_turn(image, numbers, kept, &mut release, running.start + t.time)
+    next_turn(image, numbers, kept, &release, start + t.time)
 }
 
 // Going on with a state's numbers, in the order 23, 25 for the state, 21, 22, 24, 25 for bytes. Those are stored that change. Rows that are to be filled begin
 // as copies of one that is at hand: a drive's processor copies a few numbers in fewer instructions than a call takes that clears them.
-pub fn go_on_numbers(image: &[u8], numbers: &mut [u32; NUMBERS], end: u64) -> StartAnswer
+pub fn go_on_numbers(image: &[u8], numbers: &mut [u32; NUMBERS], end: u64) -> Result<Start, Located>
     ensures { GoneOnNumbers image.now numbers.old end result numbers.new }
 {
     if is_stopped(numbers) {
-        return refused(23);
+        return Err(refusal(23));
     }
     let row = numbers::numbers_from(numbers, NEXT);
-    let mut kept = [row, row, row, row, row, row];
-    match sets::judge_kept(numbers[0], numbers, 1, &mut kept) {
-        SetAnswer::Refused(_) => stop(numbers, IMPOSSIBLE),
-        SetAnswer::Good(_) => go_on_good(image, numbers, &kept, end),
+    let mut kept = Kept::unfilled(row);
+    if sets::judge_kept(numbers[0], numbers, 1, &mut kept).is_err() {
+        return stop(numbers, refusal(25));
     }
+    go_on_good(image, numbers, &kept, end)
 }
 
 // Going on, with the state handed in and back by value.
@@ -300,19 +281,16 @@ fn fresh(set: TaskSet, first: Offsets) -> Dispatcher
 }
 
 // Beginning, into numbers: full acceptance, then the first start; a refused beginning leaves the stopped state.
-pub fn begin_numbers(image: &[u8], numbers: &mut [u32; NUMBERS]) -> StartAnswer
+pub fn begin_numbers(image: &[u8], numbers: &mut [u32; NUMBERS]) -> Result<Start, Located>
     ensures { BegunNumbers image.now result numbers.new }
 {
-    let mut kept = [[0u32; 16]; 6];
-    let t = tables::judge(image, &mut kept);
-    if t.refusal.number != 0 {
-        return stop(numbers, t.refusal);
-    }
-    let set = t.set;
-    let first = t.first;
-    *numbers = numbers::numbers_of(fresh(set, first));
-    let release = kept[FIRST];
-    start_next(image, numbers, &kept, &release, 0)
+    let mut kept = Kept::unfilled([0u32; 16]);
+    let t = match tables::judge(image, &mut kept) {
+        Ok(t) => t,
+        Err(r) => return stop(numbers, r),
+    };
+    *numbers = numbers::numbers_of(fresh(t.set, t.first));
+    start_next(image, numbers, &kept, &kept.first, 0)
 }
 
 // Beginning, with the state handed back by value.
@@ -326,7 +304,7 @@ pub fn begin(image: &[u8]) -> Turn
 }
 
 // Going on in place: the state behind the reference becomes the one that going on hands back.
-pub fn go_on_in_place(image: &[u8], d: &mut Dispatcher, end: u64) -> StartAnswer
+pub fn go_on_in_place(image: &[u8], d: &mut Dispatcher, end: u64) -> Result<Start, Located>
     ensures { GoneOnInPlace image.now d.old end result d.new }
 {
     let turn = go_on(image, *d, end);
@@ -335,7 +313,7 @@ pub fn go_on_in_place(image: &[u8], d: &mut Dispatcher, end: u64) -> StartAnswer
 }
 
 // Beginning in place: the state behind the reference becomes the one that beginning hands back, whatever it was.
-pub fn begin_in_place(image: &[u8], d: &mut Dispatcher) -> StartAnswer
+pub fn begin_in_place(image: &[u8], d: &mut Dispatcher) -> Result<Start, Located>
     ensures { BegunInPlace image.now result d.new }
 {
     let begun = begin(image);

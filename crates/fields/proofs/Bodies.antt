@@ -1,12 +1,13 @@
 -- Bodies of fields: what is written is read, and what is read is written, over any widths. Assumes nothing.
-use mathlib.Core.Path.{◌≡◌, refl, sym, ◌∙◌, ap₂}
+use mathlib.Core.Path.{◌≡◌, refl, sym, ◌∙◌, ap, ap₂}
 use mathlib.Core.List.{List, [], ◌∷◌, ◌++◌, append_assoc}
 use Prim.Native.Nat.{ℕ, ◌+◌, ◌≤◌}
 use native.Mathlib.Omega.{arith}
-use lib.ListN.{length, take, drop, length-append, length-drop}
+use lib.ListN.{length, take, drop, length-append, length-drop, drop_of_length-le}
 use lib.Seq.{take_at, drop_at, take-add, length-take-le}
-use Rattle.fields.specs.Number.{Bytes, big_endian}
+use Rattle.fields.specs.Number.{Bytes, big_endian, stored_at}
 use Rattle.fields.specs.Body.{total, head₀, tail₀, body, values_in, Fit}
+use Rattle.fields.proofs.Places.{stored_front}
 use Rattle.fields.proofs.Laws.{big_endian_length, big_endian_bytes, number_below, read_written, written_read, bytes_append, bytes_take, bytes_drop}
 
 -- a body has the bytes of its widths
@@ -48,3 +49,22 @@ values_fit (w ∷ ws) bs h l = (
   rw (length-take-le w bs (omega arith)) at (number_below (take w bs) (bytes_take w bs h)),
   values_fit ws (drop w bs) (bytes_drop w bs h) (omega (arith, length-drop w bs)),
 )
+
+-- what code leaves that stores fields one after the other, from a place on
+abbrev pub stored_fields : List ℕ → List ℕ → List ℕ → ℕ → List ℕ
+stored_fields [] vs old at = old
+stored_fields (w ∷ ws) vs old at = stored_fields ws (tail₀ vs) (stored_at w old at (head₀ vs)) (at + w)
+
+-- fields stored behind a front, up to the end, are the front and a body
+fields_stored : (ws vs p old : List ℕ) → length p + total ws ≡ length old → stored_fields ws vs (p ++ drop (length p) old) (length p) ≡ p ++ body ws vs
+fields_stored [] vs p old h = ap (λ (r : List ℕ). p ++ r) (drop_of_length-le old (omega arith))
+fields_stored (w ∷ ws) vs p old h =
+    let x = head₀ vs in
+    let front = p ++ big_endian w x in
+    let e : length front ≡ length p + w = length-append p (big_endian w x) ∙ rw (big_endian_length w x) in
+    rw (stored_front p old w x (omega arith), ← e) (fields_stored ws (tail₀ vs) front old (omega arith))
+    ∙ append_assoc p (big_endian w x) (body ws (tail₀ vs))
+
+-- fields stored over bytes of their length are a body
+pub body_stored : (ws vs old : List ℕ) → length old ≡ total ws → stored_fields ws vs old 0 ≡ body ws vs
+body_stored ws vs old h = fields_stored ws vs [] old (omega arith)

@@ -2,95 +2,91 @@
 // storing it changes nothing. The facts are proved once over the width.
 #![tactic(auto)]
 
-ghost use Rattle.std.specs.Prelude.{◌≡◌, [], ◌∷◌};
-ghost use Rattle.fields.specs.Number.{number, field_at, stored_at};
+ghost use Rattle.std.specs.Prelude.{◌≡◌, ℕ, ◌+◌, ◌≤◌, length};
+ghost use Rattle.fields.specs.Number.{field_at, stored_at};
 
-// A byte as a wider number.
-fn wide(b: u8) -> u32
-    ensures { result ≡ b }
-{
-    b as u32
+// A number of a field's width: u8, u16 or u32.
+pub trait Field {
+    // How many bytes a field has.
+    const WIDTH: usize;
+
+    ghost WIDTH: { ℕ };
+
+    // The number in the bytes at a place, where they stand whole.
+    fn load(bytes: &[u8], at: usize) -> u32
+        requires { at + WIDTH ≤ length bytes.now }
+        ensures { result ≡ field_at WIDTH bytes.now at };
+
+    // Stores a number's lowest bytes at a place, where they stand whole.
+    fn save(out: &mut [u8], at: usize, x: u32)
+        requires { at + WIDTH ≤ length out.old }
+        ensures { out.new ≡ stored_at WIDTH out.old at x };
 }
 
-// The number in two bytes.
-fn number2(a: u8, b: u8) -> u32
-    ensures { result ≡ number (a ∷ (b ∷ [])) }
-{
-    wide(a) * 256 + wide(b)
-}
+impl Field for u8 {
+    const WIDTH: usize = 1;
 
-// The number in four bytes.
-fn number4(a: u8, b: u8, c: u8, d: u8) -> u32
-    ensures { result ≡ number (a ∷ (b ∷ (c ∷ (d ∷ [])))) }
-{
-    wide(a) * 16777216 + wide(b) * 65536 + wide(c) * 256 + wide(d)
-}
+    ghost WIDTH = { 1 };
 
-// The byte at a place.
-pub fn read1(bytes: &[u8], at: usize) -> u32
-    ensures { result ≡ field_at 1 bytes.now at }
-{
-    if at < bytes.len() {
-        return wide(bytes[at]);
+    fn load(bytes: &[u8], at: usize) -> u32 {
+        u32::from(bytes[at])
     }
-    0
-}
 
-// The number in the two bytes at a place.
-pub fn read2(bytes: &[u8], at: usize) -> u32
-    ensures { result ≡ field_at 2 bytes.now at }
-{
-    if at <= bytes.len() {
-        if 2 <= bytes.len() - at {
-            return number2(bytes[at], bytes[at + 1]);
-        }
-    }
-    0
-}
-
-// The number in the four bytes at a place.
-pub fn read4(bytes: &[u8], at: usize) -> u32
-    ensures { result ≡ field_at 4 bytes.now at }
-{
-    if at <= bytes.len() {
-        if 4 <= bytes.len() - at {
-            return number4(bytes[at], bytes[at + 1], bytes[at + 2], bytes[at + 3]);
-        }
-    }
-    0
-}
-
-// Stores the lowest byte of a number at a place.
-pub fn store1(out: &mut [u8], at: usize, x: u32)
-    ensures { out.new ≡ stored_at 1 out.old at x }
-{
-    if at < out.len() {
+    fn save(out: &mut [u8], at: usize, x: u32) {
         out[at] = (x % 256) as u8;
     }
 }
 
-// Stores the lowest two bytes of a number at a place.
-pub fn store2(out: &mut [u8], at: usize, x: u32)
-    ensures { out.new ≡ stored_at 2 out.old at x }
-{
-    if at <= out.len() {
-        if 2 <= out.len() - at {
-            out[at] = (x / 256 % 256) as u8;
-            out[at + 1] = (x % 256) as u8;
-        }
+impl Field for u16 {
+    const WIDTH: usize = 2;
+
+    ghost WIDTH = { 2 };
+
+    fn load(bytes: &[u8], at: usize) -> u32 {
+        u32::from(u16::from_be_bytes([bytes[at], bytes[at + 1]]))
+    }
+
+    fn save(out: &mut [u8], at: usize, x: u32) {
+        let [high, low] = ((x % 65536) as u16).to_be_bytes();
+        out[at] = high;
+        out[at + 1] = low;
     }
 }
 
-// Stores the four bytes of a number at a place.
-pub fn store4(out: &mut [u8], at: usize, x: u32)
-    ensures { out.new ≡ stored_at 4 out.old at x }
+impl Field for u32 {
+    const WIDTH: usize = 4;
+
+    ghost WIDTH = { 4 };
+
+    fn load(bytes: &[u8], at: usize) -> u32 {
+        u32::from_be_bytes([bytes[at], bytes[at + 1], bytes[at + 2], bytes[at + 3]])
+    }
+
+    fn save(out: &mut [u8], at: usize, x: u32) {
+        let [first, second, third, fourth] = x.to_be_bytes();
+        out[at] = first;
+        out[at + 1] = second;
+        out[at + 2] = third;
+        out[at + 3] = fourth;
+    }
+}
+
+// The number in the field at a place.
+pub fn read<F: Field>(bytes: &[u8], at: usize) -> u32
+    ensures { result ≡ field_at F.WIDTH bytes.now at }
 {
-    if at <= out.len() {
-        if 4 <= out.len() - at {
-            out[at] = (x / 16777216 % 256) as u8;
-            out[at + 1] = (x / 65536 % 256) as u8;
-            out[at + 2] = (x / 256 % 256) as u8;
-            out[at + 3] = (x % 256) as u8;
-        }
+    if at <= bytes.len() && F::WIDTH <= bytes.len() - at {
+        F::load(bytes, at)
+    } else {
+        0
+    }
+}
+
+// Stores a number's lowest bytes in the field at a place.
+pub fn store<F: Field>(out: &mut [u8], at: usize, x: u32)
+    ensures { out.new ≡ stored_at F.WIDTH out.old at x }
+{
+    if at <= out.len() && F::WIDTH <= out.len() - at {
+        F::save(out, at, x);
     }
 }

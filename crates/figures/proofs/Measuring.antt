@@ -16,14 +16,14 @@ use Rattle.rules.specs.Intervals.{spare}
 use Rattle.rules.specs.Axis.{figures_of}
 use Rattle.rules.proofs.Several.{list_length, list_at}
 use Rattle.rules.proofs.TickFigures.{ticks_entrywise}
-use Rattle.sets.specs.Kept.{Rows, tasks_in, hyperperiod_in, Keeps}
+use Rattle.sets.specs.declared.Kept.{Kept}
+use Rattle.sets.specs.Kept.{tasks_in, hyperperiod_in, Keeps}
 use Rattle.sets.proofs.SetKept.{kept_cycle, kept_good, one_set}
-use Rattle.spare.specs.Walking.{CanFill}
 use Rattle.figures.specs.declared.Times.{Times}
 use Rattle.figures.specs.Times.{TimesTold, first_figures, times_put, CanPutTimes}
 use Rattle.figures.specs.Figures.{figures_put}
 
-module _ {ts : Set} {kept : Rows} {τ : List Entry} {t : Times} (keeps : Keeps ts kept) (valid : ValidTimetable ts (hyperperiod ts) τ) (told : TimesTold ts τ t) where
+module _ {ts : Set} {kept : Kept} {τ : List Entry} {t : Times} (keeps : Keeps ts kept) (valid : ValidTimetable ts (hyperperiod ts) τ) (told : TimesTold ts τ t) where
   -- each task's lateness, in order
   latenesses : take (tasks_in kept) t.worst ≡ list_below (length ts.tasks) (worst_lateness ts τ)
   latenesses =
@@ -70,9 +70,6 @@ module _ {ts : Set} {kept : Rows} {τ : List Entry} {t : Times} (keeps : Keeps t
         let behind = drop_at (first_figures kept t) (drop from old) from first_many in
         ap (take rest) behind ∙ take_all rest (drop from old) (omega (arith, put_many, length-drop from old))
 
-    pub can_fill : CanFill ts kept many (mid_of from rest (times_put kept t old))
-    can_fill = record { keeps = keeps; are = are; room = rw part_is (omega (arith, length-drop from old)) }
-
     -- and with them all figures are at the front
     pub filled : {part : List ℤ} → part ≡ spare ts (hyperperiod_in kept) ++ drop many (mid_of from rest (times_put kept t old)) →
         put_mid from rest (times_put kept t old) part ≡ figures_put ts τ old
@@ -87,6 +84,6 @@ module _ {ts : Set} {kept : Rows} {τ : List Entry} {t : Times} (keeps : Keeps t
         (sym (append_assoc (first_figures kept t) (spare ts (hyperperiod_in kept)) (drop (from + many) old)))
 
 -- as many capacities as any set has that the rows are kept of
-pub same_many : {ts us : Set} {kept : Rows} {many : ℕ} → Keeps ts kept → Keeps us kept → many ≡ length (spare us (hyperperiod_in kept)) →
+pub same_many : {ts us : Set} {kept : Kept} {many : ℕ} → Keeps ts kept → Keeps us kept → many ≡ length (spare us (hyperperiod_in kept)) →
     many ≡ length (spare ts (hyperperiod_in kept))
 same_many {kept = kept} a b e = e ∙ ap (λ (vs : Set). length (spare vs (hyperperiod_in kept))) (one_set b a)

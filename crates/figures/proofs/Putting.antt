@@ -1,33 +1,24 @@
 -- Putting the first figures: the three counts of ticks, then each task's lateness behind them. Assumes nothing.
-use mathlib.Core.Path.{◌≡◌, refl, sym, ◌∙◌, ap}
+use mathlib.Core.Path.{◌≡◌, sym, ◌∙◌, ap}
 use mathlib.Core.List.{List, [], ◌∷◌, ◌++◌, append_assoc}
-use Prim.Native.Nat.{ℕ, suc, ◌+◌, ◌-◌, ◌≤◌, ◌<◌}
+use Prim.Native.Nat.{ℕ, suc, ◌+◌, ◌≤◌, ◌<◌}
 use native.Mathlib.Omega.{arith}
 use native.Mathlib.Numerals.{add-one}
-use lib.ListN.{length, get_or, set, take, drop, length-append, length-drop, take-append-drop}
+use lib.ListN.{length, get_or, set, take, drop, length-append, length-drop}
 use lib.IntN.{ℤ, pos}
-use lib.Seq.{set_at, take-suc, drop-cons, drop_at, length-take-le}
-use Rattle.sets.specs.Kept.{Rows, tasks_in, hyperperiod_in}
+use lib.Seq.{set_at, take-suc, drop-cons, length-take-le}
+use Rattle.sets.specs.declared.Kept.{Kept}
+use Rattle.sets.specs.Kept.{tasks_in}
 use Rattle.figures.specs.declared.Times.{Times}
-use Rattle.figures.specs.Times.{times_put, CanPutTimes}
-
--- three numbers at the front
-three_put : (old : List ℤ) (a b c : ℤ) → 3 ≤ length old → set (set (set old 0 a) 1 b) 2 c ≡ a ∷ b ∷ c ∷ drop 3 old
-three_put [] a b c l = absurd (omega arith)
-three_put (x ∷ []) a b c l = absurd (omega arith)
-three_put (x ∷ y ∷ []) a b c l = absurd (omega arith)
-three_put (x ∷ y ∷ z ∷ old) a b c l = refl
+use Rattle.figures.specs.Times.{CanPutTimes}
 
 -- the lateness of the first i tasks is put behind the first three figures
-pub record PutTo (kept : Rows) (t : Times) (old : List ℤ) (i : ℕ) (out : List ℤ) : Type 0 where
+pub record PutTo (kept : Kept) (t : Times) (old : List ℤ) (i : ℕ) (out : List ℤ) : Type 0 where
   pub can : CanPutTimes kept t old
   pub so_far : i ≤ tasks_in kept
   pub put : out ≡ take 3 old ++ (take i t.worst ++ drop (i + 3) old)
 
-pub put_none : {kept : Rows} {t : Times} {old : List ℤ} → CanPutTimes kept t old → PutTo kept t old 0 old
-put_none {old = old} can = record { can = can; so_far = omega arith; put = sym (take-append-drop 3 old) }
-
-module _ {kept : Rows} {t : Times} {old : List ℤ} {i : ℕ} {out : List ℤ} (w : PutTo kept t old i out) where
+module _ {kept : Kept} {t : Times} {old : List ℤ} {i : ℕ} {out : List ℤ} (w : PutTo kept t old i out) where
   three : length (take 3 old) ≡ 3
   three = length-take-le 3 old (omega (arith, w.can.room))
 
@@ -67,11 +58,3 @@ module _ {kept : Rows} {t : Times} {old : List ℤ} {i : ℕ} {out : List ℤ} (
             ∙ set_at front (get_or old (i + 3) (pos 0)) rest v (3 + i) long
             ∙ rw (one_more, behind, append_assoc (take i t.worst) (v ∷ []) rest) (append_assoc (take 3 old) (take i t.worst) (v ∷ rest));
       }
-
-  -- at last the three figures
-  pub put_all : {a b c : ℤ} → tasks_in kept ≤ i → a ≡ pos t.busy → b ≡ pos t.forced → c ≡ pos (hyperperiod_in kept - (t.busy + t.forced)) →
-      set (set (set out 0 a) 1 b) 2 c ≡ times_put kept t old
-  put_all {a} {b} {c} done p q r =
-      let e : i ≡ tasks_in kept = omega (arith, w.so_far) in
-      three_put out a b c (omega (arith, put_length, w.can.room))
-      ∙ rw (p, q, r, w.put, drop_at (take 3 old) (take i t.worst ++ drop (i + 3) old) 3 three, e)

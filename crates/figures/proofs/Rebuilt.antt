@@ -19,7 +19,8 @@ use Rattle.rules.proofs.Framed.{values_written, behind_written}
 use Rattle.rules.proofs.AcceptedTables.{its_tables, no_faults}
 use Rattle.rules.proofs.ValidTimetables.{entries_valid, no_fault_valid}
 use Rattle.rules.proofs.Writable.{valid_writable}
-use Rattle.sets.specs.Kept.{Rows, tasks_in, all_jobs_in, Keeps}
+use Rattle.sets.specs.declared.Kept.{Kept}
+use Rattle.sets.specs.Kept.{tasks_in, all_jobs_in, Keeps}
 use Rattle.sets.proofs.SetKept.{kept_good}
 use Rattle.writing.proofs.Puts.{put_fits, put_length}
 use Rattle.rebuilding.specs.Rebuilt.{TimetableBehind, longest_image, entries_bytes, entries_put, CanPut}
@@ -40,7 +41,7 @@ entries_back : (τ : List Entry) → map to_entry (map of_entry τ) ≡ τ
 entries_back [] = refl
 entries_back (e ∷ τ) = ap (λ (σ : List Entry). e ∷ σ) (entries_back τ)
 
-module _ {bytes : List ℕ} {ts : Set} {kept : Rows} {first : Offsets} {τ : List Entry} (b : TimetableBehind bytes ts first τ) (keeps : Keeps ts kept) where
+module _ {bytes : List ℕ} {ts : Set} {kept : Kept} {first : Offsets} {τ : List Entry} (b : TimetableBehind bytes ts first τ) (keeps : Keeps ts kept) where
   no_fault : timetable_fault ts τ ≡ none
   no_fault = (its_tables ts b.tables τ b.judged).0
 

@@ -23,14 +23,15 @@ use Rattle.rules.specs.Ticks.{busy_ticks, forced_ticks}
 use Rattle.rules.specs.Lateness.{lateness_at, larger, worst_among, worst_lateness}
 use Rattle.rules.proofs.Cases.{by_bool, by_eq, by_nat}
 use Rattle.rules.proofs.GoodSets.{good_rules, some_jobs}
-use Rattle.rules.proofs.PriorityLaws.{StartKeepsRules, slot_empty, due_in_cycle, least_below, slot_start_same, slot_start_other}
+use Rattle.rules.proofs.PriorityLaws.{StartKeepsRules, slot_empty, least_below, slot_start_same, slot_start_other}
 use Rattle.rules.proofs.ValidTimetables.{no_fault_valid}
 use Rattle.rules.proofs.TickFigures.{ticks_entrywise}
 use Rattle.rules.proofs.PossibleStates.{none_left}
 use Rattle.rules.proofs.Theory.{ValidFrom, finished}
 use Rattle.rules.proofs.Positions.{Before, at_first, is_entry, at_next}
-use Rattle.sets.specs.Kept.{Rows, tasks_in, slack_in, first_in}
-use Rattle.sets.proofs.SetKept.{kept_good, slack_kept, first_kept}
+use Rattle.sets.specs.declared.Kept.{Kept}
+use Rattle.sets.specs.Kept.{tasks_in, slack_in, first_in, Keeps}
+use Rattle.sets.proofs.SetKept.{kept_good, slack_kept, first_kept, one_set}
 use Rattle.timetables.specs.Entries.{entry_in, entries_at}
 use Rattle.timetables.specs.Judged.{entries_behind, EntriesValid}
 use Rattle.timetables.specs.Instants.{instant_of}
@@ -42,7 +43,7 @@ use Rattle.figures.proofs.Differences.{minus_both}
 
 -- before entry j: what is added up, with what the entries left add to it, is the whole; and each task's worst among the entries so far is in its slot, where
 -- the task has had a job
-pub record WalkedTo (ts : Set) (bytes : List ℕ) (kept : Rows) (listed : ℕ) (releases : List ℕ) (worst : List ℤ) (busy forced free at j : ℕ) : Type 0 where
+pub record WalkedTo (ts : Set) (bytes : List ℕ) (kept : Kept) (listed : ℕ) (releases : List ℕ) (worst : List ℤ) (busy forced free at j : ℕ) : Type 0 where
   pub next : List ℕ
   pub so_far : j ≤ listed
   pub walk : ValidAt ts bytes kept listed releases next free at j
@@ -56,14 +57,14 @@ pub record WalkedTo (ts : Set) (bytes : List ℕ) (kept : Rows) (listed : ℕ) (
       worst_among ts (entries_behind bytes ts listed) i j ≡ pick (eqb (slot next i) 0) none (some (get_or worst i (pos 0)))
 
 -- the ticks of both kinds are no more than the cycle has
-few_ticks : {ts : Set} {bytes : List ℕ} {kept : Rows} {listed : ℕ} → EntriesValid ts bytes kept listed →
+few_ticks : {ts : Set} {bytes : List ℕ} {kept : Kept} {listed : ℕ} → EntriesValid ts bytes kept listed →
     busy_ticks (setting ts) (entries_behind bytes ts listed) + forced_ticks (setting ts) [] 0 (entries_behind bytes ts listed) ≤ limits.ticks
 few_ticks {ts} {bytes} {listed = listed} valid =
     let good = kept_good valid.stand.keeps in
     omega (arith, (ticks_entrywise good ((no_fault_valid ts (entries_behind bytes ts listed)).0 valid.no_fault)).inside, good.short)
 
 -- before the first entry
-pub walked_none : {ts : Set} {bytes : List ℕ} {kept : Rows} {listed : ℕ} {releases : List ℕ} {at : ℕ} → EntriesValid ts bytes kept listed →
+pub walked_none : {ts : Set} {bytes : List ℕ} {kept : Kept} {listed : ℕ} {releases : List ℕ} {at : ℕ} → EntriesValid ts bytes kept listed →
     AtEntry ts kept releases [] at 0 → WalkedTo ts bytes kept listed releases (replicate 16 (pos 0)) 0 0 0 at 0
 walked_none {ts} {bytes} {listed = listed} {at = at} valid here =
     let place : at ≡ head_length ts = omega (arith, here.place) in
@@ -84,7 +85,7 @@ walked_none {ts} {bytes} {listed = listed} {at = at} valid here =
 larger_next : (k : ℕ) (o : Option ℤ) (w late : ℤ) → o ≡ pick (eqb k 0) none (some w) → larger o late ≡ larger_of (eqb k 0) w late
 larger_next k o w late e = by_bool (eqb k 0) (λ b. rw (b, rw b at e)) (λ b. rw (b, rw b at e))
 
-module _ {ts : Set} {bytes : List ℕ} {kept : Rows} {listed : ℕ} {releases : List ℕ} {worst : List ℤ} {busy forced free at j : ℕ}
+module _ {ts : Set} {bytes : List ℕ} {kept : Kept} {listed : ℕ} {releases : List ℕ} {worst : List ℤ} {busy forced free at j : ℕ}
     (w : WalkedTo ts bytes kept listed releases worst busy forced free at j) (more : j < listed) {e : Entry} (is : e ≡ entry_in bytes at) where
   abbrev τ : List Entry
   τ = entries_behind bytes ts listed
@@ -109,11 +110,6 @@ module _ {ts : Set} {bytes : List ℕ} {kept : Rows} {listed : ℕ} {releases : 
   latest_is : get_or releases e.task 0 + get_or (slack_in kept) e.task 0
       ≡ release (task ts e.task) (slot w.next e.task) + ((task ts e.task).deadline - (task ts e.task).time)
   latest_is = omega (arith, its_release w.walk.here e.task a_slot, slack_kept w.walk.here.keeps e.task a_slot)
-
-  pub latest_fits : get_or releases e.task 0 + get_or (slack_in kept) e.task 0 ≤ limits.ticks
-  latest_fits =
-      let good = kept_good w.walk.here.keeps in
-      omega (arith, latest_is, due_in_cycle (hyperperiod ts) (slot w.next e.task) (task ts e.task) (good_rules good e.task) keeps.left, good.short)
 
   -- its lateness, by its start and the latest start that keeps its deadline
   late_is : pos e.start -ℤ pos (get_or releases e.task 0 + get_or (slack_in kept) e.task 0) ≡ lateness_at ts τ j
@@ -204,15 +200,11 @@ module _ {ts : Set} {bytes : List ℕ} {kept : Rows} {listed : ℕ} {releases : 
       (at + size SL) (j + 1)
   walked_on l n = rw (n, l) walked_more
 
-  -- the sums stay small
-  pub sums_fit : (busy + (free_after kept e - e.start) ≤ limits.ticks) × (forced + (e.start - instant_of (tasks_in kept) releases free) ≤ limits.ticks)
-  sums_fit = let m = walked_more in (omega (arith, m.busy_is, m.few), omega (arith, m.forced_is, m.few))
-
 -- behind the last entry all jobs have started
 all_done : {G : Setting} {x : G.Started} {f : ℕ} → ValidFrom G x f [] → G.all_started x ≡ true
 all_done (finished e) = e
 
-module _ {ts : Set} {bytes : List ℕ} {kept : Rows} {listed : ℕ} {releases : List ℕ} {worst : List ℤ} {busy forced free at j : ℕ}
+module _ {ts : Set} {bytes : List ℕ} {kept : Kept} {listed : ℕ} {releases : List ℕ} {worst : List ℤ} {busy forced free at j : ℕ}
     (w : WalkedTo ts bytes kept listed releases worst busy forced free at j) (done : listed ≤ j) where
   all_seen : entries_at bytes at (listed - j) ≡ []
   all_seen = no_entry_left bytes at listed j done
@@ -229,10 +221,11 @@ module _ {ts : Set} {bytes : List ℕ} {kept : Rows} {listed : ℕ} {releases : 
       let all : length (entries_behind bytes ts listed) ≡ j = omega (arith, entries_length bytes (head_length ts) listed, w.so_far) in
       rw (all, w.worst_is i l, ne_eqb (slot w.next i) 0 (λ z. omega (arith, had_jobs i l)))
 
-  pub walked_all : TimesTold ts (entries_behind bytes ts listed) (record { busy = busy; forced = forced; worst = worst })
-  walked_all = record {
+  -- of the only set that the rows are kept of
+  pub walked_all : {us : Set} → Keeps us kept → TimesTold us (entries_behind bytes us listed) (record { busy = busy; forced = forced; worst = worst })
+  walked_all keeps = rw (one_set keeps w.walk.all.keeps) (record {
     busy = omega (arith, w.busy_is, ap (busy_ticks (setting ts)) all_seen);
     forced = omega (arith, w.forced_is, ap (forced_ticks (setting ts) w.next free) all_seen);
     slots = w.slots;
     worst = λ i l. sym (worst_told i l);
-  }
+  })

@@ -7,7 +7,8 @@ use Rattle.rules.specs.Timetable.{pick}
 use Rattle.rules.specs.Priority.{setting}
 use Rattle.rules.specs.Ticks.{busy_ticks, forced_ticks}
 use Rattle.rules.specs.Lateness.{worst_lateness}
-use Rattle.sets.specs.Kept.{Rows, tasks_in, hyperperiod_in}
+use Rattle.sets.specs.declared.Kept.{Kept}
+use Rattle.sets.specs.Kept.{tasks_in, hyperperiod_in}
 use Rattle.figures.specs.declared.Times.{Times}
 
 -- the larger of a worst so far and one more, which it is for a first job
@@ -26,13 +27,13 @@ pub record TimesTold (ts : Set) (τ : List Entry) (t : Times) : Type 0 where
   pub worst : (i : ℕ) → i < length ts.tasks → get_or t.worst i (pos 0) ≡ worst_lateness ts τ i
 
 -- the first figures of a set with these rows: busy ticks, forced idle, other idle, and the lateness of each task
-abbrev pub first_figures : Rows → Times → List ℤ
+abbrev pub first_figures : Kept → Times → List ℤ
 first_figures kept t = pos t.busy ∷ (pos t.forced ∷ (pos (hyperperiod_in kept - (t.busy + t.forced)) ∷ take (tasks_in kept) t.worst))
 
-abbrev pub times_put : Rows → Times → List ℤ → List ℤ
+abbrev pub times_put : Kept → Times → List ℤ → List ℤ
 times_put kept t old = first_figures kept t ++ drop (tasks_in kept + 3) old
 
-pub record CanPutTimes (kept : Rows) (t : Times) (out : List ℤ) : Type 0 where
+pub record CanPutTimes (kept : Kept) (t : Times) (out : List ℤ) : Type 0 where
   pub few : tasks_in kept ≤ limits.tasks
   pub short : hyperperiod_in kept ≤ limits.ticks
   pub inside : t.busy + t.forced ≤ hyperperiod_in kept

@@ -13,17 +13,16 @@ ghost use Rattle.rebuilding.specs.Rebuilt.{TimetableBehind};
 ghost use Rattle.figures.specs.Times.{worsened, TimesTold, CanPutTimes, times_put};
 ghost use Rattle.figures.specs.Figures.{CanPutFigures, figures_put, MeasuresImage};
 
-use framing::FrameAnswer;
 use images::ENTRY_SIZE;
 use rebuilding::LONGEST;
-use rules::{Axis, AxisAnswer, Offsets, TOO_LONG};
-use sets::{ALL_JOBS, FIGURES, FIRST, HYPERPERIOD, PERIODS, SLACK, TASKS, TIMES};
+use rules::{Axis, Entry, Located, Offsets, TOO_LONG};
+use sets::Kept;
 
 // The lateness of a job by its start and the latest start that keeps its deadline.
 fn lateness(start: u32, latest: u32) -> i64
     ensures { result ≡ pos start -ℤ pos latest }
 {
-    start as i64 - latest as i64
+    i64::from(start) - i64::from(latest)
 }
 
 // A job of task i with its start and the latest one that keeps its deadline: its lateness is the task's worst where it is a first job's, or larger than the
@@ -33,11 +32,7 @@ fn worsen(worst: &mut [i64; 16], i: usize, first: bool, start: u32, latest: u32)
     ensures { worst.new ≡ worsened worst.old i first (pos start -ℤ pos latest) }
 {
     let late = lateness(start, latest);
-    if first {
-        worst[i] = late;
-        return;
-    }
-    if worst[i] < late {
+    if first || worst[i] < late {
         worst[i] = late;
     }
 }
@@ -51,31 +46,29 @@ pub struct Times {
 }
 
 // The walk. A task whose next release is still its first has had no job.
-fn walk(image: &[u8], kept: &[[u32; 16]; 6]) -> Times
+fn walk(image: &[u8], kept: &Kept) -> Times
     requires { (ts : Set) × EntriesValid ts image.now kept.now (all_jobs_in kept.now) }
     ensures { (ts : Set) → EntriesValid ts image.now kept.now (all_jobs_in kept.now) →
         TimesTold ts (entries_behind image.now ts (all_jobs_in kept.now)) result }
 {
-    let n = kept[FIGURES][TASKS] as usize;
-    let all = kept[FIGURES][ALL_JOBS] as usize;
-    let mut release = kept[FIRST];
+    let n = kept.tasks as usize;
+    let all = kept.all_jobs as usize;
+    let mut release = kept.first;
     let mut worst = [0i64; 16];
     let mut busy: u32 = 0;
     let mut forced: u32 = 0;
     let mut free: u32 = 0;
     let mut at = images::head_length(n);
-    let mut j: usize = 0;
-    while j < all {
-        let e = images::entry_at(image, at);
+    for _entry in 0..all {
+        let e = images::read::<Entry>(image, at);
         let i = e.task as usize;
-        let first = release[i] == kept[FIRST][i];
-        worsen(&mut worst, i, first, e.start, release[i] + kept[SLACK][i]);
+        let first = release[i] == kept.first[i];
+        worsen(&mut worst, i, first, e.start, release[i] + kept.slack[i]);
         forced += e.start - timetables::instant(n, &release, free);
-        release[i] += kept[PERIODS][i];
-        free = e.start + kept[TIMES][i];
+        release[i] += kept.periods[i];
+        free = e.start + kept.times[i];
         busy += free - e.start;
         at += ENTRY_SIZE;
-        j += 1;
     }
     Times {
         busy,
@@ -85,23 +78,21 @@ fn walk(image: &[u8], kept: &[[u32; 16]; 6]) -> Times
 }
 
 // The first figures at the front of an output: busy ticks, forced idle, other idle, and the lateness of each task.
-fn put_times(kept: &[[u32; 16]; 6], t: Times, out: &mut [i64])
+fn put_times(kept: &Kept, t: Times, out: &mut [i64])
     requires { CanPutTimes kept.now t out.old }
     ensures { out.new ≡ times_put kept.now t out.old }
 {
-    let n = kept[FIGURES][TASKS] as usize;
-    let mut i: usize = 0;
-    while i < n {
+    let n = kept.tasks as usize;
+    for i in 0..n {
         out[3 + i] = t.worst[i];
-        i += 1;
     }
-    out[0] = t.busy as i64;
-    out[1] = t.forced as i64;
-    out[2] = (kept[FIGURES][HYPERPERIOD] - t.busy - t.forced) as i64;
+    out[0] = i64::from(t.busy);
+    out[1] = i64::from(t.forced);
+    out[2] = i64::from(kept.hyperperiod - t.busy - t.forced);
 }
 
 // The figures of an accepted image at the front of an output with room for them, so many of which are capacities.
-fn put_figures(image: &[u8], kept: &[[u32; 16]; 6], first: Offsets, many: usize, out: &mut [i64])
+fn put_figures(image: &[u8], kept: &Kept, first: Offsets, many: usize, out: &mut [i64])
     requires { (ts : Set) × CanPutFigures ts image.now kept.now first many out.old }
     ensures { (ts : Set) (τ : List book_entry.Entry) → Keeps ts kept.now → TimetableBehind image.now ts first τ →
         out.new ≡ figures_put ts τ out.old }
@@ -109,38 +100,32 @@ fn put_figures(image: &[u8], kept: &[[u32; 16]; 6], first: Offsets, many: usize,
     let mut entries = [0u8; LONGEST];
     rebuilding::put_entries(image, kept, first, &mut entries);
     put_times(kept, walk(&entries, kept), out);
-    let from = kept[FIGURES][TASKS] as usize + 3;
+    let from = kept.tasks as usize + 3;
     spare::fill(kept, many, &mut out[from..]);
 }
 
 // The figures of a whole image, and nothing else changed.
-fn measure_image(image: &[u8], out: &mut [i64]) -> AxisAnswer
+fn measure_image(image: &[u8], out: &mut [i64]) -> Result<Axis, Located>
     ensures { MeasuresImage image.now out.old result out.new }
 {
-    let mut kept = [[0u32; 16]; 6];
-    let t = tables::judge(image, &mut kept);
-    if t.refusal.number != 0 {
-        let r = t.refusal;
-        return AxisAnswer::Refused(r);
-    }
+    let mut kept = Kept::unfilled([0u32; 16]);
+    let t = tables::judge(image, &mut kept)?;
     let many = spare::count(&kept);
-    let figures = kept[FIGURES][TASKS] as usize + 3 + many;
+    let figures = kept.tasks as usize + 3 + many;
     if out.len() < figures {
-        return AxisAnswer::Refused(TOO_LONG);
+        return Err(TOO_LONG);
     }
     put_figures(image, &kept, t.first, many, out);
-    AxisAnswer::Measured(Axis {
+    Ok(Axis {
         figures,
         used: image.len(),
     })
 }
 
 // The figures of the image at the front, and nothing else changed.
-pub fn measure(images: &[u8], out: &mut [i64]) -> AxisAnswer
+pub fn measure(images: &[u8], out: &mut [i64]) -> Result<Axis, Located>
     ensures { Measures images.now out.old result out.new }
 {
-    match framing::frame(images, false) {
-        FrameAnswer::Refused(r) => AxisAnswer::Refused(r),
-        FrameAnswer::Framed(l) => measure_image(&images[..l.ended], out),
-    }
+    let l = framing::frame(images, false)?;
+    measure_image(&images[..l.ended], out)
 }

@@ -13,7 +13,7 @@ use Rattle.rules.specs.declared.Layout.{Layout}
 use Rattle.rules.specs.Refusals.{Judged, gives}
 use Rattle.rules.specs.Marks.{Mark, TS, TK, SL, row, size, values}
 use Rattle.rules.specs.Framing.{after_later, goes_on, ends, Allowed, frame_records, frame}
-use Rattle.rules.proofs.Cases.{clash, differ, both_in}
+use Rattle.rules.proofs.Cases.{differ, both_in}
 use Rattle.rules.proofs.Marked.{due_turn, found_allowed}
 use Rattle.rules.proofs.FramingTurns as turns
 use Rattle.rules.proofs.Shapes.{in_later_turn}
@@ -34,9 +34,9 @@ none_after rest behind other a (turns.past_later l e (turns.one_inversion is)) =
 -- so the layout lists what the place lists
 none_from : {s : Place} {bytes : List ℕ} {z : Judged Layout} → turns.Frames 1 s bytes z → (l : Layout) → z ≡ gives l → 2 ≤ s.rank →
     (size SL ≤ length bytes → Allowed 1 s bytes SL → ⊥) → l.listed ≡ s.listed
-none_from (turns.too_short c) l e behind other = clash (cc)
-none_from (turns.unmarked c d) l e behind other = clash (cc)
-none_from (turns.cut_off c d f) l e behind other = clash (cc)
+none_from (turns.too_short c) l e behind other = cc
+none_from (turns.unmarked c d) l e behind other = cc
+none_from (turns.cut_off c d f) l e behind other = cc
 none_from (turns.stops {s = s} {bytes = bytes} {m = m} w a) l e behind other =
     (ended_at (turns.by_after 1 s m (values m bytes) (a ∙ ap ends e))).1
 none_from (turns.goes {s = s} {bytes = bytes} {m = m} w a f) l e behind other =

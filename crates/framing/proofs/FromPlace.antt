@@ -11,7 +11,7 @@ use Rattle.rules.specs.declared.Refusal.{Refusal}
 use Rattle.rules.specs.Refusals.{Judged, gives, refuses, or_else, unless}
 use Rattle.rules.specs.Marks.{Mark, TS, TK, row, values}
 use Rattle.rules.specs.Framing.{start_place, may_follow, goes_on, ends, nothing_follows, index_of_end, frame_records, frame}
-use Rattle.rules.proofs.Cases.{clash, then_gives, or_else_gives}
+use Rattle.rules.proofs.Cases.{then_gives, or_else_gives}
 use Rattle.rules.proofs.Marked.{not_lower, due_turn, found_allowed}
 use Rattle.rules.proofs.FramingTurns as turns
 use Rattle.framing.proofs.PlaceLaws.{refused_place}
@@ -37,9 +37,9 @@ ended_at (turns.past_end e) = (refl, refl)
 -- so has the layout of what is framed from the place on
 pub listed_from : {kind : ℕ} {s : Place} {bytes : List ℕ} {z : Judged Layout} → turns.Frames kind s bytes z → (l : Layout) → z ≡ gives l → 2 ≤ s.rank →
     (l.tasks ≡ s.tasks) × (s.listed ≤ l.listed)
-listed_from (turns.too_short c) l e behind = clash (cc)
-listed_from (turns.unmarked c d) l e behind = clash (cc)
-listed_from (turns.cut_off c d f) l e behind = clash (cc)
+listed_from (turns.too_short c) l e behind = cc
+listed_from (turns.unmarked c d) l e behind = cc
+listed_from (turns.cut_off c d f) l e behind = cc
 listed_from {kind} (turns.stops {s = s} {bytes = bytes} {m = m} w a) l e behind =
     let r = ended_at (turns.by_after kind s m (values m bytes) (a ∙ ap ends e)) in
     (r.0, omega (arith, r.1))

@@ -1,4 +1,3 @@
-pub mod AllowedLaws
 pub mod SetLaws
 pub mod RecordLaws
 pub mod PlaceLaws

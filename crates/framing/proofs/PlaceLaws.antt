@@ -1,8 +1,9 @@
 -- Places in an image: the first one, and the one behind a record that framing goes on behind. Assumes nothing.
 use mathlib.Core.Path.{◌≡◌, refl}
-use mathlib.Core.Bool.{Bool, true, false}
+use mathlib.Core.Logic.{◌⊎◌, inl, inr}
+use mathlib.Core.Bool.{true}
 use mathlib.Core.List.{List}
-use mathlib.Core.Option.{Option, none, some}
+use mathlib.Core.Option.{some}
 use Prim.Native.Nat.{ℕ, zero, suc, ◌+◌, ◌-◌, ◌≤◌}
 use native.Mathlib.Omega.{arith}
 use lib.Dec.{eqb}
@@ -10,13 +11,13 @@ use lib.ListN.{length, drop}
 use Rattle.rules.specs.declared.Place.{Place}
 use Rattle.rules.specs.declared.Layout.{Layout}
 use Rattle.rules.specs.declared.Refusal.{Refusal}
-use Rattle.rules.specs.Refusals.{gives, refuses, first, unless}
+use Rattle.rules.specs.Refusals.{gives, refuses}
 use Rattle.rules.specs.Tasks.{few_enough}
 use Rattle.rules.specs.Priority.{slot}
 use Rattle.rules.specs.Marks.{Mark, TS, TK, EN, row, size, head_count_of, front_mark}
-use Rattle.rules.specs.Framing.{may_follow, tasks_due, goes_on, ends, index_of_end, start_place}
+use Rattle.rules.specs.Framing.{may_follow, rank_due, tasks_due, goes_on, ends, index_of_end, start_place}
 use Rattle.rules.specs.Located.{Begins, at_the_front, behind_a_record}
-use Rattle.rules.proofs.Cases.{clash}
+use Rattle.rules.proofs.Cases.{by_bool}
 use Rattle.rules.proofs.Marked.{not_lower, due_turn, later_turn}
 use Rattle.rules.proofs.FramingTurns as turns
 use Rattle.framing.specs.Frames.{Placed}
@@ -26,6 +27,11 @@ pub place_path : (p q : Place) → p.index ≡ q.index → p.offset ≡ q.offset
     p.listed ≡ q.listed → p.inversions ≡ q.inversions → p ≡ q
 place_path p q a b c d e f g = λ i. record { index = a i; offset = b i; rank = c i; due = d i; tasks = e i; listed = f i; inversions = g i }
 
+-- where a task is due, the rank is that of TK, and behind the last task it is 2
+pub rank_due_is : (due : ℕ) → ((due ≡ 0) × (rank_due due ≡ 2)) ⊎ ((1 ≤ due) × (rank_due due ≡ 1))
+rank_due_is zero = inl (refl, refl)
+rank_due_is (suc due) = inr (omega arith, refl)
+
 -- before the first record
 pub placed_at_start : (bytes : List ℕ) → Placed bytes start_place
 placed_at_start bytes = record {
@@ -34,8 +40,8 @@ placed_at_start bytes = record {
   few = omega arith;
   few_listed = omega arith;
   before_head = λ r. refl;
-  tasks_due = λ r. absurd (omega arith);
-  behind_tasks = λ r. absurd (omega arith);
+  tasks_due = λ r. omega arith;
+  behind_tasks = λ r. omega arith;
 }
 
 -- behind the TK records
@@ -46,25 +52,25 @@ placed_behind bytes t begins inside few rank counted = record {
   inside = inside;
   few = few;
   few_listed = omega arith;
-  before_head = λ r. absurd (omega arith);
-  tasks_due = λ r. absurd (omega arith);
+  before_head = λ r. omega arith;
+  tasks_due = λ r. omega arith;
   behind_tasks = λ r. counted;
 }
 
 -- where so many TK records are due
 placed_due : (bytes : List ℕ) (index offset due n : ℕ) → Begins bytes index offset → offset ≤ length bytes → index ≤ offset → index + due ≡ suc n →
     Placed bytes (tasks_due index offset due n)
-placed_due bytes index offset zero n begins inside few counted =
-    placed_behind bytes (tasks_due index offset zero n) begins inside few (omega arith) (omega arith)
-placed_due bytes index offset (suc due) n begins inside few counted = record {
-  begins = begins;
-  inside = inside;
-  few = few;
-  few_listed = omega arith;
-  before_head = λ r. absurd (omega arith);
-  tasks_due = λ r. (omega arith, counted);
-  behind_tasks = λ r. absurd (omega arith);
-}
+placed_due bytes index offset due n begins inside few counted =
+    let rank = rank_due_is due in
+    record {
+      begins = begins;
+      inside = inside;
+      few = few;
+      few_listed = omega arith;
+      before_head = λ r. omega (arith, rank);
+      tasks_due = λ r. omega (arith, rank);
+      behind_tasks = λ r. omega (arith, rank);
+    }
 
 -- a mark that comes behind the TK records finds them counted
 counted_behind : {s : Place} (bytes : List ℕ) (m : Mark) → 2 ≤ (row m).rank → Placed bytes s → may_follow s.rank (row m).rank ≡ true →
@@ -73,7 +79,8 @@ counted_behind {s = s} bytes m h p turn = p.behind_tasks (later_turn s.rank (row
 
 -- a record that framing goes on behind leads to a place in the image
 pub placed_after : {kind : ℕ} {s : Place} {m : Mark} {v : List ℕ} {t : Place} (bytes : List ℕ) → Placed bytes s →
-    front_mark (drop s.offset bytes) ≡ some m → s.offset + size m ≤ length bytes → may_follow s.rank (row m).rank ≡ true → turns.After kind s m v (goes_on t) → Placed bytes t
+    front_mark (drop s.offset bytes) ≡ some m → s.offset + size m ≤ length bytes → may_follow s.rank (row m).rank ≡ true →
+    turns.After kind s m v (goes_on t) → Placed bytes t
 placed_after {s = s} bytes p front whole turn (turns.past_head {v = v} e) =
     let first : s.rank ≡ 0 = due_turn s.rank (row TS).rank (omega arith) turn in
     let none_before = p.before_head first in
@@ -91,21 +98,12 @@ pub end_index : {kind : ℕ} {s : Place} {m : Mark} {v : List ℕ} {l : Layout} 
 end_index {s = s} bytes p turn (turns.past_end e) =
     (omega (arith, counted_behind bytes EN (omega arith) p turn), (later_turn s.rank (row EN).rank (omega arith) turn).0)
 
--- a test that fails refuses at its place
-unless_place : (b : Bool) (number place : ℕ) (r : Refusal) → unless b number place ≡ some r → r.place ≡ place
-unless_place true number place r e = clash (cc)
-unless_place false number place r e = cc
-
--- so does the first of two faults at one place
-first_place : (place : ℕ) (a b : Option Refusal) (r : Refusal) → ((q : Refusal) → a ≡ some q → q.place ≡ place) →
-    ((q : Refusal) → b ≡ some q → q.place ≡ place) → first a b ≡ some r → r.place ≡ place
-first_place place none b r h k e = k r e
-first_place place (some q) b r h k e = h r e
-
 -- a record that is refused is the one at fault
 pub refused_place : {kind : ℕ} {s : Place} {m : Mark} {v : List ℕ} {r : Refusal} → turns.After kind s m v (ends (refuses r)) → r.place ≡ s.index
-refused_place {kind} {s = s} {r = r} (turns.bad_head {v = v} e) =
-    let i = s.index in
-    first_place i _ _ r (unless_place (eqb (slot v 0) 1) 3 i)
-    (λ q. first_place i _ _ q (unless_place (eqb (slot v 1) kind) 4 i) (unless_place (few_enough (slot v 2)) 5 i)) e
+refused_place {kind} (turns.bad_head {v = v} e) =
+    by_bool (eqb (slot v 0) 1)
+    (λ a. by_bool (eqb (slot v 1) kind)
+    (λ b. by_bool (few_enough (slot v 2)) (λ d. let f = rw (a, b, d) at e in cc) (λ d. let f = rw (a, b, d) at e in cc))
+    (λ b. let f = rw (a, b) at e in cc))
+    (λ a. let f = rw a at e in cc)
 refused_place (turns.bad_end n) = refl

@@ -3,7 +3,7 @@
 use mathlib.Core.Path.{◌≡◌, refl, ◌∙◌, ap}
 use mathlib.Core.Bool.{true}
 use mathlib.Core.List.{List, ◌++◌}
-use Prim.Native.Nat.{ℕ, zero, suc, ◌+◌, ◌*◌, ◌-◌, ◌≤◌}
+use Prim.Native.Nat.{ℕ, suc, ◌+◌, ◌*◌, ◌-◌, ◌≤◌}
 use native.Mathlib.Omega.{arith}
 use lib.ListN.{length, replicate, length-drop}
 use Rattle.rules.specs.declared.Place.{Place}
@@ -14,11 +14,11 @@ use Rattle.rules.specs.Marks.{Mark, TS, TK, EN, row, size, head_length_of, value
 use Rattle.rules.specs.Framing.{start_place, may_follow, tasks_due, goes_on, ends, frame, set_in}
 use Rattle.rules.specs.Dispatcher.{zero_task}
 use Rattle.rules.specs.Tasks.{set_with, memory_set}
-use Rattle.rules.proofs.Cases.{clash}
 use Rattle.rules.proofs.Marked.{due_turn, later_turn, found_allowed}
 use Rattle.rules.proofs.FramingTurns as turns
 use Rattle.framing.specs.SetRead.{set_read}
 use Rattle.framing.proofs.SetLaws.{set_read_is, set_tasks_many, set_tasks_are}
+use Rattle.framing.proofs.PlaceLaws.{rank_due_is}
 use Rattle.framing.proofs.TaskLaws.{counts_tasks}
 use Rattle.framing.proofs.FromPlace.{frame_given}
 
@@ -29,8 +29,7 @@ record HasRoom (s : Place) : Type 0 where
 
 -- where so many TK records are due
 room_due : (index offset due n : ℕ) → n ≤ 16 → head_length_of n ≤ offset + due * size TK → HasRoom (tasks_due index offset due n)
-room_due index offset zero n few h = record { room = λ r. (few, h); none_due = λ r. refl }
-room_due index offset (suc due) n few h = record { room = λ r. (few, h); none_due = λ r. absurd (omega arith) }
+room_due index offset due n few h = record { room = λ r. (few, h); none_due = λ r. omega (arith, rank_due_is due) }
 
 -- behind the TK records
 room_behind : (s t : Place) → HasRoom s → 2 ≤ s.rank → s.offset ≤ t.offset → t.due ≡ s.due → t.tasks ≡ s.tasks → HasRoom t
@@ -40,8 +39,8 @@ room_behind s t h late further same-due same_tasks =
     record { room = λ _. omega arith; none_due = λ _. omega arith }
 
 -- a record that framing goes on behind keeps the room
-room_after : {kind : ℕ} {s : Place} {m : Mark} {v : List ℕ} {t : Place} → HasRoom s → may_follow s.rank (row m).rank ≡ true → turns.After kind s m v (goes_on t) →
-    HasRoom t
+room_after : {kind : ℕ} {s : Place} {m : Mark} {v : List ℕ} {t : Place} → HasRoom s → may_follow s.rank (row m).rank ≡ true →
+    turns.After kind s m v (goes_on t) → HasRoom t
 room_after {kind} {s = s} h turn (turns.past_head {v = v} e) =
     room_due (suc s.index) (s.offset + size TS) (slot v 2) (slot v 2) (counts_tasks kind s.index v e).1 (omega arith)
 room_after {s = s} h turn turns.past_task =
@@ -59,9 +58,9 @@ room_end {s = s} h turn (turns.past_end e) =
 
 room_framed : {kind : ℕ} {s : Place} {bytes : List ℕ} {z : Judged Layout} → turns.Frames kind s bytes z → (l : Layout) → z ≡ gives l → HasRoom s →
     (l.tasks ≤ 16) × (head_length_of l.tasks ≤ s.offset + length bytes)
-room_framed (turns.too_short c) l e h = clash (cc)
-room_framed (turns.unmarked c d) l e h = clash (cc)
-room_framed (turns.cut_off c d f) l e h = clash (cc)
+room_framed (turns.too_short c) l e h = cc
+room_framed (turns.unmarked c d) l e h = cc
+room_framed (turns.cut_off c d f) l e h = cc
 room_framed {kind} (turns.stops {s = s} {bytes = bytes} {m = m} w a) l e h =
     let r = room_end h (found_allowed kind s bytes m w.marked).its_turn (turns.by_after kind s m (values m bytes) (a ∙ ap ends e)) in
     omega arith

@@ -21,8 +21,8 @@ use Rattle.rules.proofs.Shapes.{in_later_turn}
 use Rattle.images.specs.declared.Row.{Row}
 use Rattle.images.specs.Table.{code_row, stands_at}
 use Rattle.images.proofs.TableLaws.{stands_whole}
-use Rattle.framing.specs.Frames.{behind_run, Reached, RunOf, TowardsTasks, TasksPassed}
-use Rattle.framing.proofs.PlaceLaws.{place_path, placed_after}
+use Rattle.framing.specs.Frames.{behind_run, Reached, RunOf, TowardsTasks, TasksPassed, BehindTasks}
+use Rattle.framing.proofs.PlaceLaws.{rank_due_is, place_path, placed_after}
 use Rattle.framing.proofs.TaskLaws.{towards_due}
 
 -- at first none is counted
@@ -79,34 +79,6 @@ module _ {kind : ℕ} {bytes : List ℕ} {s : Place} (m : Mark) (re : Reached ki
             ∙ ap (frame_records kind t) (drop-drop (size m) s.offset bytes ∙ ap (λ (i : ℕ). drop i bytes) (sym (turns.moves behind).1));
       }
 
--- places one record apart, each in the turn of the record behind it
-pub record Apart (kind : ℕ) (m : Mark) (from many : ℕ) (place : ℕ → Place) : Type 0 where
-  pub at : (j : ℕ) → (place j).offset ≡ from + j * size m
-  pub in_turn : (j : ℕ) → j < many → may_follow (place j).rank (row m).rank ≡ true
-  pub leads : (j : ℕ) → j < many → (v : List ℕ) → after kind (place j) m v ≡ goes_on (place (suc j))
-
--- so framing comes to the place behind all records of a run
-pub past_run : {kind : ℕ} {bytes : List ℕ} (m : Mark) (from many : ℕ) (place : ℕ → Place) → in_kind kind (row m) ≡ true →
-    Apart kind m from many place → ((j : ℕ) → j < many → stands_at bytes (from + j * size m) m ≡ true) → Reached kind bytes (place 0) →
-    (i : ℕ) → i ≤ many → Reached kind bytes (place i)
-past_run m from many place of_kind a stand re zero h = re
-past_run m from many place of_kind a stand re (suc i) h =
-    past_record m (past_run m from many place of_kind a stand re i (omega arith)) of_kind (a.in_turn i (omega arith))
-    (rw (a.at i) (stand i (omega arith))) (place (suc i)) (a.leads i (omega arith) _)
-
--- where a task is due, the rank is that of TK
-due_rank : (due : ℕ) → 1 ≤ due → rank_due due ≡ 1
-due_rank zero h = absurd (omega arith)
-due_rank (suc due) h = refl
-
--- so it is behind a run that leaves one due
-pub rank_left : (due many : ℕ) → many < due → rank_due (due - many) ≡ 1
-rank_left due many h = due_rank (due - many) (omega arith)
-
--- and behind the last one it is 2
-pub rank_last : (due many : ℕ) → due ≤ many → rank_due (due - many) ≡ 2
-rank_last due many h = let none_left : due - many ≡ 0 = omega arith in rw none_left
-
 -- every kind of image has TK
 every_kind : (kind : ℕ) → in_kind kind (row TK) ≡ true
 every_kind kind = by_bool (eqb kind 1) (λ e. rw (e, in_kind)) (λ e. rw (e, in_kind))
@@ -114,16 +86,6 @@ every_kind kind = by_bool (eqb kind 1) (λ e. rw (e, in_kind)) (λ e. rw (e, in_
 -- the place behind so many tasks that are due
 abbrev tasks_behind : Place → ℕ → Place
 tasks_behind s j = tasks_due (s.index + j) (s.offset + j * size TK) (s.due - j) s.tasks
-
--- each of them leads to the next
-tasks_apart : (kind : ℕ) (s : Place) (many : ℕ) → many ≤ s.due → Apart kind TK s.offset many (tasks_behind s)
-tasks_apart kind s many few = record {
-  at = λ j. refl;
-  in_turn = λ j l. rw (rank_left s.due j (omega arith));
-  leads = λ j l v.
-      let fewer : s.due - j - 1 ≡ s.due - suc j = omega arith in
-      ap goes_on (place_path _ (tasks_behind s (suc j)) (omega arith) (omega arith) (ap rank_due fewer) fewer refl refl refl);
-}
 
 -- a run of TK records that are due leads on to the place behind them
 module _ {kind : ℕ} {bytes : List ℕ} {s : Place} (re : Reached kind bytes s) (w : TowardsTasks bytes s) (some-due : 1 ≤ s.due) where
@@ -136,46 +98,46 @@ module _ {kind : ℕ} {bytes : List ℕ} {s : Place} (re : Reached kind bytes s)
   -- the place is the one behind none of them
   from_here : s ≡ tasks_behind s 0
   from_here =
-      place_path s (tasks_behind s 0) (omega arith) (omega arith) (is_due ∙ sym (rank_left s.due 0 some-due)) (omega arith) refl
+      place_path s (tasks_behind s 0) (omega arith) (omega arith) (omega (arith, is_due, rank_due_is (s.due - 0))) (omega arith) refl
       w.nothing_listed.0 w.nothing_listed.1
 
-  -- framing comes to the place that the code has, which is on the way and not before this one
-  pub tasks_passed : (many rank : ℕ) → RunOf bytes s.offset TK s.due many → rank ≡ rank_due (s.due - many) →
-      (t : Place) → t ≡ record {
-        index = s.index + many;
-        offset = s.offset + many * size TK;
-        rank = rank;
-        due = s.due - many;
-        tasks = s.tasks;
-        listed = s.listed;
-        inversions = s.inversions;
-      } → TasksPassed kind bytes s t
-  tasks_passed many rank run its-rank t is =
-      let a = w.announced (omega (arith, is_due)) in
-      let b = w.counted (omega (arith, is_due)) in
-      let few = run.asked in
-      let reached : Reached kind bytes (tasks_behind s many) =
-      past_run TK s.offset many (tasks_behind s) (every_kind kind) (tasks_apart kind s many few) run.stand
-      (subst (λ (p : Place). Reached kind bytes p) from_here re) many (omega arith) in
-      let towards : TowardsTasks bytes (tasks_behind s many) =
-      towards_due bytes (s.index + many) (s.offset + many * size TK) (s.due - many) s.tasks a.0 a.1 a.2 (omega arith) (omega arith) in
-      rw (is, its-rank, w.nothing_listed.0, w.nothing_listed.1) (record { reached = reached; towards = towards; onwards = omega arith })
+  module _ {many : ℕ} (run : RunOf bytes s.offset TK s.due many) where
+    -- each of them leads to the next
+    tasks_reached : (j : ℕ) → j ≤ many → Reached kind bytes (tasks_behind s j)
+    tasks_reached zero h = subst (λ (p : Place). Reached kind bytes p) from_here re
+    tasks_reached (suc j) h =
+        let due : rank_due (s.due - j) ≡ 1 = omega (arith, rank_due_is (s.due - j), run.asked) in
+        let fewer : s.due - j - 1 ≡ s.due - suc j = omega arith in
+        past_record TK (tasks_reached j (omega arith)) (every_kind kind) (rw due) (run.stand j (omega arith)) (tasks_behind s (suc j))
+        (ap goes_on (place_path _ (tasks_behind s (suc j)) (omega arith) (omega arith) (ap rank_due fewer) fewer refl refl refl))
+
+    -- framing comes to the place behind them, which is on the way and not before this one
+    pub tasks_passed : TasksPassed kind bytes s (tasks_behind s many)
+    tasks_passed =
+        let a = w.announced (omega (arith, is_due)) in
+        let b = w.counted (omega (arith, is_due)) in
+        let few = run.asked in
+        record {
+          reached = tasks_reached many (omega arith);
+          towards = towards_due bytes (s.index + many) (s.offset + many * size TK) (s.due - many) s.tasks a.0 a.1 a.2 (omega arith) (omega arith);
+          onwards = omega arith;
+        }
 
 -- the rank behind a record, with the row that was read
-module _ (m : Mark) (r : Row) (read : r ≡ code_row m) (rank : ℕ) where
-  pub once_rank : r.once ≡ true → rank ≡ r.rank + 1 → rank ≡ least_behind (row m)
-  once_rank e is = is ∙ ap (λ (q : Row). q.rank + 1) read ∙ add-one (row m).rank ∙ behind_once (row m) (rw read at e)
+module _ (m : Mark) {r : Row} (read : r ≡ code_row m) where
+  pub once_rank : r.once ≡ true → r.rank + 1 ≡ least_behind (row m)
+  once_rank e = ap (λ (q : Row). q.rank + 1) read ∙ add-one (row m).rank ∙ behind_once (row m) (rw read at e)
 
-  pub own_rank : r.once ≡ false → rank ≡ r.rank → rank ≡ least_behind (row m)
-  own_rank e is = is ∙ ap (λ (q : Row). q.rank) read ∙ behind_many (row m) (rw read at e)
+  pub own_rank : r.once ≡ false → r.rank ≡ least_behind (row m)
+  own_rank e = ap (λ (q : Row). q.rank) read ∙ behind_many (row m) (rw read at e)
 
 -- the place behind a run, as the code makes it
-module _ (m : Mark) (s : Place) (listed inversions many : ℕ) where
-  pub none_passed : many < 1 → s ≡ behind_run m s many listed inversions
+module _ (m : Mark) (s : Place) {many : ℕ} (listed inversions : ℕ) where
+  pub none_passed : many ≡ 0 → s ≡ behind_run m s many listed inversions
   unfolding behind_run
-  none_passed h = by_nat many (λ z. rw z) (λ j z. absurd (omega arith))
+  none_passed e = rw e
 
-  pub some_passed : (r : Row) (rank : ℕ) → r ≡ code_row m → 1 ≤ many → rank ≡ least_behind (row m) →
+  pub some_passed : {r : Row} {rank : ℕ} → r ≡ code_row m → (many ≡ 0 → ⊥) → rank ≡ least_behind (row m) →
       record {
         index = s.index + many;
         offset = s.offset + many * r.size;
@@ -186,7 +148,7 @@ module _ (m : Mark) (s : Place) (listed inversions many : ℕ) where
         inversions = inversions;
       } ≡ behind_run m s many listed inversions
   unfolding behind_run
-  some_passed r rank read one e = by_nat many (λ z. absurd (omega arith)) (λ j z. rw (read, e, z))
+  some_passed read n e = by_nat many (λ z. absurd (n z)) (λ j z. rw (read, e, z))
 
 -- records with one mark between the tasks and EN, which may stand one behind the other: what is counted behind so many of them
 pub record Counted (kind : ℕ) (m : Mark) (s : Place) (listed inversions : ℕ → ℕ) : Type 0 where
@@ -202,13 +164,11 @@ module _ (kind : ℕ) (m : Mark) (s : Place) (listed inversions : ℕ → ℕ) (
   abbrev place : ℕ → Place
   place j = behind_run m s j (listed j) (inversions j)
 
-  run_apart : (many : ℕ) → Apart kind m s.offset many place
+  -- so framing comes to the place behind a run of them
+  pub run_passed : {bytes : List ℕ} (most many : ℕ) → Reached kind bytes s → RunOf bytes s.offset m most many →
+      Reached kind bytes (behind_run m s many (listed many) (inversions many))
   unfolding behind_run
-  run_apart many = record {
-    at = at;
-    in_turn = λ j h. turn j;
-    leads = λ j h v. c.goes (place j) j v (counted j).0 (counted j).1 ∙ ap goes_on (next j);
-  }
+  run_passed {bytes} most many re run = reached many (omega arith)
     where
       own : (row m).rank ≡ least_behind (row m)
       own = behind_many (row m) c.again
@@ -229,31 +189,30 @@ module _ (kind : ℕ) (m : Mark) (s : Place) (listed inversions : ℕ → ℕ) (
       next zero = place_path _ (place 1) (omega arith) (omega (arith, suc-mul 0 (size m), zero-mul (size m))) refl refl refl refl refl
       next (suc j) = place_path _ (place (suc (suc j))) (omega arith) (omega (arith, suc-mul (suc j) (size m))) refl refl refl refl refl
 
-  -- so framing comes to the place behind a run of them
-  pub run_passed : {bytes : List ℕ} (most many : ℕ) → Reached kind bytes s → RunOf bytes s.offset m most many →
-      Reached kind bytes (behind_run m s many (listed many) (inversions many))
-  unfolding behind_run
-  run_passed most many re run = past_run m s.offset many place c.of_kind (run_apart many) run.stand re many (omega arith)
+      reached : (j : ℕ) → j ≤ many → Reached kind bytes (place j)
+      reached zero h = re
+      reached (suc j) h =
+          past_record m (reached j (omega arith)) c.of_kind (turn j) (rw (at j) (run.stand j (omega arith))) (place (suc j))
+          (c.goes (place j) j _ (counted j).0 (counted j).1 ∙ ap goes_on (next j))
 
--- in an image of tables, from a place behind the tasks on: ID records, then PV records
-module _ {bytes : List ℕ} {s : Place} (re : Reached 2 bytes s) (behind : 2 ≤ s.rank) (low : s.rank ≤ (row ID).rank) where
-  pub idles_passed : (most many : ℕ) → RunOf bytes s.offset ID most many → Reached 2 bytes (behind_run ID s many (s.listed + many) s.inversions)
-  idles_passed most many run =
-      run_passed 2 ID s (λ (j : ℕ). s.listed + j) (λ (j : ℕ). s.inversions)
-      (record {
-        of_kind = refl;
-        again = refl;
-        none_yet = (omega arith, refl);
-        goes = λ t j v p q. ap₂ (λ (x y : ℕ). goes_on (after_later ID t x y)) (omega arith) q;
-      })
-      behind low most many re run
+-- in an image of tables, from the place behind the tasks on: ID records, behind which PV records may stand
+idles_rank : (s : Place) (many listed inversions : ℕ) → s.rank ≡ 2 →
+    (2 ≤ (behind_run ID s many listed inversions).rank) × ((behind_run ID s many listed inversions).rank ≤ (row PV).rank)
+unfolding behind_run
+idles_rank s zero listed inversions h = omega arith
+idles_rank s (suc many) listed inversions h = omega arith
 
-  -- behind which PV records may stand
-  pub idles_rank : (many listed inversions : ℕ) →
-      (2 ≤ (behind_run ID s many listed inversions).rank) × ((behind_run ID s many listed inversions).rank ≤ (row PV).rank)
-  unfolding behind_run
-  idles_rank zero listed inversions = (omega arith, omega arith)
-  idles_rank (suc many) listed inversions = (omega arith, omega arith)
+pub behind_idles : {bytes : List ℕ} {s t : Place} → Reached 2 bytes s × BehindTasks bytes s → {most many : ℕ} → RunOf bytes s.offset ID most many →
+    t ≡ behind_run ID s many (s.listed + many) s.inversions → Reached 2 bytes t × (2 ≤ t.rank) × (t.rank ≤ (row PV).rank)
+behind_idles {s = s} tasks {most} {many} run e =
+    let rank = idles_rank s many (s.listed + many) s.inversions tasks.1.rank in
+    let counted : Counted 2 ID s (λ j. s.listed + j) (λ j. s.inversions) = record {
+      of_kind = refl;
+      again = refl;
+      none_yet = (omega arith, refl);
+      goes = λ t j v p q. ap₂ (λ (x y : ℕ). goes_on (after_later ID t x y)) (omega arith) q;
+    } in
+    rw e (run_passed 2 ID s _ _ counted (omega (arith, tasks.1.rank)) (omega (arith, tasks.1.rank)) most many tasks.0 run, rank.0, rank.1)
 
 pub inversions_passed : {bytes : List ℕ} {s : Place} → Reached 2 bytes s → 2 ≤ s.rank → s.rank ≤ (row PV).rank → (most many : ℕ) →
     RunOf bytes s.offset PV most many → Reached 2 bytes (behind_run PV s many s.listed (s.inversions + many))

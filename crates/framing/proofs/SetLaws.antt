@@ -94,14 +94,6 @@ module _ (bytes : List ℕ) where
   set_tasks_are n h =
       take_at (tasks_at bytes (size TS) n) (replicate (limits.tasks - n) zero_task) n (tasks_length (size TS) n) ∙ tasks_read (size TS) n h
 
--- a refusal at TS's place, and one at a later record of the head
-pub first_located : (r : Refusal) → r.place < 1 → record { number = r.number; place = r.place; offset = 0 } ≡ set_located r
-first_located r l = let here : r.place ≡ 0 = omega arith in rw here
-
-pub later_located : (r : Refusal) → 1 ≤ r.place →
-    record { number = r.number; place = r.place; offset = size TS + (r.place - 1) * size TK } ≡ set_located r
-later_located r l = by_nat r.place (λ z. absurd (omega arith)) (λ i z. let one_less : suc i - 1 ≡ i = omega arith in rw (z, one_less))
-
 -- a set's refusal is located so in an image that begins with the set
 pub set_located_there : (kind : ℕ) (bytes : List ℕ) (ts : Set) (qs : List Record) → bytes ≡ image (head_records kind ts ++ qs) → (r : Refusal) →
     set_fault ts ≡ some r → set_located r ≡ located bytes r

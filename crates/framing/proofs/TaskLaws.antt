@@ -1,31 +1,28 @@
 -- Framing of TS and the tasks: what is known at each place up to the one behind the last task. Assumes nothing.
 use mathlib.Core.Path.{◌≡◌, refl, ◌∙◌, ap}
-use mathlib.Core.Bool.{Bool, true}
+use mathlib.Core.Bool.{true}
 use mathlib.Core.List.{List, [], ◌∷◌}
 use mathlib.Core.Option.{none}
-use Prim.Native.Nat.{ℕ, zero, suc, ◌+◌, ◌-◌, ◌*◌, ◌≤◌, ◌<◌}
+use Prim.Native.Nat.{ℕ, suc, ◌+◌, ◌-◌, ◌*◌, ◌≤◌, ◌<◌}
 use native.Mathlib.Omega.{arith}
 use borrow.Author.Tests.{leb-true}
 use lib.Dec.{leb, eqb}
 use lib.ListN.{length, get_or, drop}
+use Rattle.std.specs.Prelude.{Ok, Err}
 use Rattle.rules.specs.declared.Place.{Place}
-use Rattle.rules.specs.declared.Layout.{Layout}
 use Rattle.rules.specs.declared.Located.{Located}
 use Rattle.rules.specs.Refusals.{unless}
 use Rattle.rules.specs.Tasks.{few_enough}
 use Rattle.rules.specs.Priority.{slot}
 use Rattle.rules.specs.Marks.{Mark, TS, TK, row, size, head_length_of, values}
-use Rattle.rules.specs.Framing.{may_follow, head_fault, tasks_due, goes_on}
+use Rattle.rules.specs.Framing.{may_follow, head_fault, tasks_due, goes_on, start_place}
 use Rattle.rules.proofs.Cases.{by_nat, both_true, first_none, unless_none}
 use Rattle.rules.proofs.Marked.{due_turn, later_turn}
 use Rattle.rules.proofs.FramingTurns as turns
-use Rattle.framing.specs.declared.Step.{Step}
 use Rattle.framing.specs.declared.Step.TheVariants as step_case
-use Rattle.framing.specs.declared.FrameAnswer.TheVariants as frame_case
-use Rattle.framing.specs.declared.TasksAnswer.{TasksAnswer}
-use Rattle.framing.specs.declared.TasksAnswer.TheVariants.{Framed, Refused}
-use Rattle.framing.specs.Frames.{Placed, Steps, Reached, TowardsTasks, BehindTasks, TasksFramed, frame_as, frame_answer}
-use Rattle.framing.proofs.StepLaws.{goes_further, refused_frame, refused_as}
+use Rattle.framing.specs.Frames.{Placed, Steps, Reached, TowardsTasks, TasksFramed}
+use Rattle.framing.proofs.PlaceLaws.{rank_due_is}
+use Rattle.framing.proofs.StepLaws.{refused_frame}
 
 -- a TS that passes its tests counts 1 to 16 tasks
 pub counts_tasks : (kind index : ℕ) (v : List ℕ) → head_fault kind index v ≡ none → (1 ≤ slot v 2) × (slot v 2 ≤ 16)
@@ -45,35 +42,29 @@ number_of_tasks (a ∷ b ∷ c ∷ d ∷ []) h = absurd (omega arith)
 number_of_tasks (a ∷ b ∷ c ∷ d ∷ n ∷ bytes) h = omega arith
 
 -- before the first record
-pub towards_at_start : (bytes : List ℕ) → TowardsTasks bytes (record { index = 0; offset = 0; rank = 0; due = 0; tasks = 0; listed = 0; inversions = 0 })
+pub towards_at_start : (bytes : List ℕ) → TowardsTasks bytes start_place
 towards_at_start bytes = record {
   first = λ r. (refl, refl);
   low = omega arith;
   none_due = λ r. refl;
   nothing_listed = (refl, refl);
-  announced = λ r. absurd (omega arith);
-  counted = λ r. absurd (omega arith);
+  announced = λ r. omega arith;
+  counted = λ r. omega arith;
 }
 
 -- where so many TK records are due
 pub towards_due : (bytes : List ℕ) (index offset due n : ℕ) → n ≡ get_or bytes 4 0 → 1 ≤ n → n ≤ 16 → index + due ≡ suc n →
     offset + due * size TK ≡ head_length_of n → TowardsTasks bytes (tasks_due index offset due n)
-towards_due bytes index offset zero n e some few counted ends = record {
-  first = λ r. absurd (omega arith);
-  low = omega arith;
-  none_due = λ r. refl;
-  nothing_listed = (refl, refl);
-  announced = λ r. (e, some, few);
-  counted = λ r. (counted, ends);
-}
-towards_due bytes index offset (suc due) n e some few counted ends = record {
-  first = λ r. absurd (omega arith);
-  low = omega arith;
-  none_due = λ r. absurd (omega arith);
-  nothing_listed = (refl, refl);
-  announced = λ r. (e, some, few);
-  counted = λ r. (counted, ends);
-}
+towards_due bytes index offset due n e some few counted ends =
+    let rank = rank_due_is due in
+    record {
+      first = λ r. omega (arith, rank);
+      low = omega (arith, rank);
+      none_due = λ r. omega (arith, rank);
+      nothing_listed = (refl, refl);
+      announced = λ r. (e, some, few);
+      counted = λ r. (counted, ends);
+    }
 
 -- a record that framing goes on behind, where a task or TS is due, leads on
 towards_after : {kind : ℕ} {s : Place} {m : Mark} {v : List ℕ} {t : Place} (bytes : List ℕ) → Placed bytes s → TowardsTasks bytes s → s.rank < 2 →
@@ -96,10 +87,9 @@ towards_after {s = s} {m = m} bytes p w low inside read turn (turns.past_later l
     absurd (omega (arith, (later_turn s.rank (row m).rank l turn).0))
 
 -- a turn of framing TS and the tasks, with what one record comes to
-module _ (kind : ℕ) (bytes : List ℕ) (s : Place) (re : Reached kind bytes s) (w : TowardsTasks bytes s) where
+module _ {kind : ℕ} {bytes : List ℕ} {s : Place} (re : Reached kind bytes s) (w : TowardsTasks bytes s) where
   -- behind the last task
-  pub behind_last : 2 ≤ s.rank → TasksFramed kind bytes (Framed s)
-  unfolding TasksFramed
+  pub behind_last : 2 ≤ s.rank → TasksFramed kind bytes (Ok s)
   behind_last h =
       let a = w.announced (omega arith) in
       let c = w.counted (omega arith) in
@@ -118,38 +108,14 @@ module _ (kind : ℕ) (bytes : List ℕ) (s : Place) (re : Reached kind bytes s)
         },
       )
 
-  module _ (low : s.rank < 2) (r : Step) (steps : Steps kind bytes s r) where
+  module _ (low : s.rank < 2) where
     -- the next place on the way
-    pub leads_on : (t : Place) → r ≡ step_case.GoesOn t → TowardsTasks bytes t
-    unfolding Steps
-    leads_on t e =
-        let f = goes_further kind bytes s r steps t e in
-        let g = f.3 in
-        towards_after bytes re.placed w low f.0.inside refl g.its_turn (turns.by_after kind s g.mark _ g.goes)
+    pub leads_on : {t : Place} → Steps kind bytes s (Ok (step_case.GoesOn t)) → TowardsTasks bytes t
+    leads_on f = let g = f.3 in towards_after bytes re.placed w low f.0.inside refl g.its_turn (turns.by_after kind s g.mark _ g.goes)
 
     -- a refusal of the record is the image's, at TS or a task
-    pub refused_tasks : (q : Located) → r ≡ step_case.Refused q → TasksFramed kind bytes (Refused q)
-    unfolding TasksFramed Steps
-    refused_tasks q e =
-        let here : q.place ≡ s.index = (rw e at steps).1 in (
-          refused_frame kind bytes s r steps re q e,
-          by_nat s.rank (λ z. omega (arith, re.placed.before_head z))
-              (λ m z. omega (arith, w.announced (omega arith), re.placed.tasks_due (omega arith))),
-        )
-
-    -- EN is not due yet
-    pub not_ended : (l : Layout) → r ≡ step_case.Ended l → ⊥
-    unfolding Steps
-    not_ended l e = omega (arith, (rw e at steps).2)
-
--- what an answer for the tasks says of the image
-module _ (kind : ℕ) (bytes : List ℕ) (a : TasksAnswer) (framed : TasksFramed kind bytes a) where
-  -- framing comes to the place that is answered, which is the one behind the tasks
-  pub tasks_reached : (s : Place) → a ≡ Framed s → Reached kind bytes s × BehindTasks bytes s
-  unfolding TasksFramed
-  tasks_reached s e = rw e at framed
-
-  -- and has the refusal that is answered
-  pub tasks_refused : (whole : Bool) (r : Located) → a ≡ Refused r → frame_case.Refused r ≡ frame_answer bytes (frame_as whole kind bytes)
-  unfolding TasksFramed
-  tasks_refused whole r e = let w : TasksFramed kind bytes (Refused r) = rw e at framed in refused_as whole kind w.0
+    pub refused_tasks : {q : Located} → Steps kind bytes s (Err q) → TasksFramed kind bytes (Err q)
+    refused_tasks f = (
+      refused_frame re f,
+      by_nat s.rank (λ z. omega (arith, re.placed.before_head z)) (λ m z. omega (arith, w.announced (omega arith), re.placed.tasks_due (omega arith))),
+    )

@@ -1,5 +1,5 @@
 -- What framing's functions answer, in the rule book's terms. Assumes nothing.
-use Rattle.std.specs.Prelude.{◌≡◌, Bool, true, false, List, ℕ, zero, suc, ◌+◌, ◌*◌, ◌≤◌, ◌<◌, length, get_or, drop}
+use Rattle.std.specs.Prelude.{◌≡◌, Bool, true, false, List, ℕ, zero, suc, ◌+◌, ◌*◌, ◌≤◌, ◌<◌, length, get_or, drop, Result, Ok, Err}
 use Rattle.rules.specs.declared.Place.{Place}
 use Rattle.rules.specs.declared.Layout.{Layout}
 use Rattle.rules.specs.declared.Located.{Located}
@@ -7,14 +7,11 @@ use Rattle.rules.specs.Refusals.{Judged, gives, refuses}
 use Rattle.rules.specs.Tasks.{limits}
 use Rattle.rules.specs.Marks.{Mark, TK, row, size, head_count_of, head_length_of, values}
 use Rattle.rules.specs.Framing.{Next, goes_on, ends, may_follow, least_behind, after, start_place, frame_records, index_of_end, frame}
-use Rattle.rules.specs.Located.{located, bare, RefusedAt, Begins}
+use Rattle.rules.specs.Located.{bare, RefusedAt, Begins}
+use Rattle.rules.specs.Operations.{answer_by}
 use Rattle.images.specs.Table.{stands_at}
 use Rattle.framing.specs.declared.Step.{Step}
 use Rattle.framing.specs.declared.Step.TheVariants as step_case
-use Rattle.framing.specs.declared.FrameAnswer.{FrameAnswer}
-use Rattle.framing.specs.declared.FrameAnswer.TheVariants as frame_case
-use Rattle.framing.specs.declared.TasksAnswer.{TasksAnswer}
-use Rattle.framing.specs.declared.TasksAnswer.TheVariants as tasks_case
 
 -- a refusal of the record at a place
 abbrev pub refusal_at : ℕ → Place → Located
@@ -37,19 +34,19 @@ pub record Whole (bytes : List ℕ) (s : Place) (m : Mark) : Type 0 where
   pub not_cut : s.offset + size m ≤ length bytes
 
 -- what framing does behind a record
-abbrev pub next_in : Step → Next
-next_in (step_case.GoesOn t) = goes_on t
-next_in (step_case.Ended l) = ends (gives l)
-next_in (step_case.Refused r) = ends (refuses (bare r))
+abbrev pub next_in : Result Step Located → Next
+next_in (Ok (step_case.GoesOn t)) = goes_on t
+next_in (Ok (step_case.Ended l)) = ends (gives l)
+next_in (Err r) = ends (refuses (bare r))
 
 -- a refusal tells the record's offset
-abbrev pub TellsOffset : Place → Step → Type 0
-TellsOffset s (step_case.GoesOn t) = Unit {0}
-TellsOffset s (step_case.Ended l) = Unit {0}
-TellsOffset s (step_case.Refused r) = r.offset ≡ s.offset
+abbrev pub TellsOffset : Place → Result Step Located → Type 0
+TellsOffset s (Ok step) = Unit {0}
+TellsOffset s (Err r) = r.offset ≡ s.offset
 
-unfoldable pub Follows : ℕ → List ℕ → Place → Mark → Step → Type 0
-Follows kind bytes s m r = (next_in r ≡ after kind s m (values m (drop s.offset bytes))) × TellsOffset s r
+pub record Follows (kind : ℕ) (bytes : List ℕ) (s : Place) (m : Mark) (r : Result Step Located) : Type 0 where
+  pub next : next_in r ≡ after kind s m (values m (drop s.offset bytes))
+  pub located : TellsOffset s r
 
 -- the place behind so many records with one mark, with what is counted then
 unfoldable pub behind_run : Mark → Place → ℕ → ℕ → ℕ → Place
@@ -77,13 +74,13 @@ pub record Passes (kind : ℕ) (bytes : List ℕ) (s t : Place) : Type 0 where
 
 -- a record moves framing to a later place from which it comes to the same; or framing comes to this: EN behind the tasks, or a refusal of this record, with
 -- its index and its offset
-unfoldable pub Steps : ℕ → List ℕ → Place → Step → Type 0
-Steps kind bytes s (step_case.GoesOn t) =
+abbrev pub Steps : ℕ → List ℕ → Place → Result Step Located → Type 0
+Steps kind bytes s (Ok (step_case.GoesOn t)) =
     Placed bytes t × (s.offset < t.offset) × (frame_records kind s (drop s.offset bytes) ≡ frame_records kind t (drop t.offset bytes))
     × Passes kind bytes s t
-Steps kind bytes s (step_case.Ended l) =
+Steps kind bytes s (Ok (step_case.Ended l)) =
     (frame_records kind s (drop s.offset bytes) ≡ gives l) × (index_of_end l ≡ s.index) × (2 ≤ s.rank)
-Steps kind bytes s (step_case.Refused r) =
+Steps kind bytes s (Err r) =
     (frame_records kind s (drop s.offset bytes) ≡ refuses (bare r)) × (r.place ≡ s.index) × (r.offset ≡ s.offset)
 
 -- a place that framing comes to: from here on it comes to what it comes to from the start
@@ -125,9 +122,9 @@ pub record BehindTasks (bytes : List ℕ) (s : Place) : Type 0 where
   pub offset : s.offset ≡ head_length_of s.tasks
 
 -- framing of TS and the tasks comes to the place behind them, or the image is refused at one of these records
-unfoldable pub TasksFramed : ℕ → List ℕ → TasksAnswer → Type 0
-TasksFramed kind bytes (tasks_case.Framed s) = Reached kind bytes s × BehindTasks bytes s
-TasksFramed kind bytes (tasks_case.Refused r) = RefusedAt bytes (frame_records kind start_place bytes) r × (r.place ≤ get_or bytes 4 0)
+abbrev pub TasksFramed : ℕ → List ℕ → Result Place Located → Type 0
+TasksFramed kind bytes (Ok s) = Reached kind bytes s × BehindTasks bytes s
+TasksFramed kind bytes (Err r) = RefusedAt bytes (frame_records kind start_place bytes) r × (r.place ≤ get_or bytes 4 0)
 
 -- framing of a whole image, behind whose EN nothing follows, or of the one at the front
 abbrev pub frame_as : Bool → ℕ → List ℕ → Judged Layout
@@ -135,6 +132,5 @@ frame_as true kind bytes = frame kind bytes
 frame_as false kind bytes = frame_records kind start_place bytes
 
 -- what framing comes to, a refusal located in the image
-abbrev pub frame_answer : List ℕ → Judged Layout → FrameAnswer
-frame_answer bytes (gives l) = frame_case.Framed l
-frame_answer bytes (refuses r) = frame_case.Refused (located bytes r)
+abbrev pub frame_answer : List ℕ → Judged Layout → Result Layout Located
+frame_answer = answer_by (λ l. l)

@@ -1,60 +1,47 @@
 // Framing: record by record, left from inside with the first refusal; and the set of an image whose tasks are framed.
 #![tactic(auto)]
 
-ghost use Rattle.std.specs.Prelude.{◌≡◌, ◌<◌, ◌≤◌, length};
+ghost use Rattle.std.specs.Prelude.{◌≡◌, ℕ, ◌≤◌, length};
 ghost use Rattle.rules.specs.Marks as book_marks;
-ghost use Rattle.images.specs.Table.{mark_of};
+ghost use Rattle.rules.specs.Framing as book_framing;
+ghost use Rattle.images.specs.Table.{mark_of, kind_number};
 ghost use Rattle.framing.specs.Allowed.{kind_at, allowed_at};
 ghost use Rattle.framing.specs.Frames.{refusal_at, Placed, Whole, Follows, Steps, Room, behind_run, Reached, RunOf, TowardsTasks, TasksPassed, TasksFramed};
 ghost use Rattle.framing.specs.Frames.{frame_as, frame_answer};
 ghost use Rattle.framing.specs.SetRead.{set_read, set_located};
 
-use images::{
-    Class, EN, END_SIZE, HEAD_SIZE, ID, MARKS, PV, ROWS, TASK_SIZE, TK, TS, end_body, head_body,
-    mark, part, row_of, size_of, task_body,
-};
-use rules::{Layout, Located, NO_TASK, Place, Refusal, TaskSet};
-
-// The bytes of a body of TS, TK and EN.
-const HEAD_BODY: usize = ROWS[TS].body;
-
-const TASK_BODY: usize = ROWS[TK].body;
-
-const END_BODY: usize = ROWS[EN].body;
+use images::{Class, END_SIZE, End, HEAD_SIZE, Head, Kind, Mark, TASK_SIZE, stands};
+use rules::{Layout, Located, NO_TASK, Place, Refusal, Task, TaskSet};
 
 // Does an image of a kind have a mark?
-fn in_kind(kind: u32, k: usize) -> bool
-    requires { k < book_marks.mark_count }
-    ensures { result ≡ kind_at kind k }
+fn in_kind(kind: Kind, mark: Mark) -> bool
+    ensures { result ≡ kind_at (kind_number kind) (mark_of mark) }
 {
-    let r = row_of(k);
-    if kind == 1 {
-        return r.timetable;
+    match kind {
+        Kind::Timetable => mark.row().timetable,
+        Kind::Tables => mark.row().tables,
     }
-    r.tables
 }
 
 // May a mark stand in an image of a kind where no rank below the least may?
-fn allowed(kind: u32, least: usize, k: usize) -> bool
-    requires { k < book_marks.mark_count }
-    ensures { result ≡ allowed_at kind least k }
+fn allowed(kind: Kind, least: usize, mark: Mark) -> bool
+    ensures { result ≡ allowed_at (kind_number kind) least (mark_of mark) }
 {
-    if !in_kind(kind, k) {
+    if !in_kind(kind, mark) {
         return false;
     }
-    let rank = row_of(k).rank;
+    let rank = mark.row().rank;
     if least < 2 {
         return rank == least;
     }
     least <= rank
 }
 
-// What one record comes to: framing goes on behind it, has come to EN, or is refused.
+// What a record that is not refused comes to: framing goes on behind it, or has come to EN.
 #[derive(Clone, Copy)]
 pub enum Step {
     GoesOn(Place),
     Ended(Layout),
-    Refused(Located),
 }
 
 // A refusal of the record at a place.
@@ -68,81 +55,62 @@ fn refusal_at(number: u32, s: Place) -> Located
     }
 }
 
-fn refuses(number: u32, s: Place) -> Step
-    ensures { result ≡ Step.Refused (refusal_at number s) }
+// The place where so many TK records are due. Where none is, a later mark may stand.
+fn tasks_due(index: usize, offset: usize, due: usize, n: usize) -> Place
+    ensures { result ≡ book_framing.tasks_due index offset due n }
 {
-    Step::Refused(refusal_at(number, s))
-}
-
-// TS: 3, 4 and 5, then n tasks are due.
-fn after_head(image: &[u8], kind: u32, s: Place) -> Step
-    requires { Whole image.now s book_marks.TS }
-    ensures { Follows kind image.now s book_marks.TS result }
-{
-    let h = head_body(part(image, s.offset + 2, HEAD_BODY));
-    if h.edition != 1 {
-        return refuses(3, s);
-    }
-    if h.kind != kind {
-        return refuses(4, s);
-    }
-    if h.n < 1 {
-        return refuses(5, s);
-    }
-    if 16 < h.n {
-        return refuses(5, s);
-    }
-    let n = h.n as usize;
-    Step::GoesOn(Place {
-        index: s.index + 1,
-        offset: s.offset + HEAD_SIZE,
-        rank: 1,
-        due: n,
+    Place {
+        index,
+        offset,
+        rank: if due == 0 { 2 } else { 1 },
+        due,
         tasks: n,
         listed: 0,
         inversions: 0,
-    })
+    }
 }
 
-// A TK: one task fewer is due.
-fn after_task(image: &[u8], kind: u32, s: Place) -> Step
-    requires { Whole image.now s book_marks.TK }
-    ensures { Follows kind image.now s book_marks.TK result }
+// TS: 3, 4 and 5, then n tasks are due.
+fn after_head(image: &[u8], kind: Kind, s: Place) -> Result<Step, Located>
+    requires { Whole image.now s book_marks.TS }
+    ensures { Follows (kind_number kind) image.now s book_marks.TS result }
 {
-    let mut due: usize = 0;
-    let mut rank: usize = 2;
-    if 1 < s.due {
-        due = s.due - 1;
-        rank = 1;
+    let h = images::read::<Head>(image, s.offset);
+    if h.edition != 1 {
+        return Err(refusal_at(3, s));
     }
-    Step::GoesOn(Place {
-        index: s.index + 1,
-        offset: s.offset + TASK_SIZE,
-        rank,
-        due,
-        tasks: s.tasks,
-        listed: 0,
-        inversions: 0,
-    })
+    if h.kind != kind.number() {
+        return Err(refusal_at(4, s));
+    }
+    if h.n < 1 || 16 < h.n {
+        return Err(refusal_at(5, s));
+    }
+    let n = h.n as usize;
+    Ok(Step::GoesOn(tasks_due(s.index + 1, s.offset + HEAD_SIZE, n, n)))
+}
+
+// The place behind a TK: one task fewer is due.
+fn after_task(s: Place) -> Place
+    requires { Room s book_marks.TK 1 }
+    ensures { result ≡ book_framing.after_task book_marks.TK s }
+{
+    let due = if s.due == 0 { 0 } else { s.due - 1 };
+    tasks_due(s.index + 1, s.offset + TASK_SIZE, due, s.tasks)
 }
 
 // Past so many records with one mark between the tasks and EN, with what is counted then.
-pub fn past(s: Place, k: usize, count: usize, listed: usize, inversions: usize) -> Place
-    requires { Room s (mark_of k) count }
-    ensures { result ≡ behind_run (mark_of k) s count listed inversions }
+pub fn past(s: Place, mark: Mark, count: usize, listed: usize, inversions: usize) -> Place
+    requires { Room s (mark_of mark) count }
+    ensures { result ≡ behind_run (mark_of mark) s count listed inversions }
 {
-    if count < 1 {
+    if count == 0 {
         return s;
     }
-    let row = row_of(k);
-    let mut rank = row.rank;
-    if row.once {
-        rank += 1;
-    }
+    let row = mark.row();
     Place {
         index: s.index + count,
         offset: s.offset + count * row.size,
-        rank,
+        rank: if row.once { row.rank + 1 } else { row.rank },
         due: s.due,
         tasks: s.tasks,
         listed,
@@ -151,123 +119,96 @@ pub fn past(s: Place, k: usize, count: usize, listed: usize, inversions: usize) 
 }
 
 // EN: 10 where its number is not that of the records before it.
-fn after_end(image: &[u8], kind: u32, s: Place) -> Step
+fn after_end(image: &[u8], s: Place) -> Result<Step, Located>
     requires { Whole image.now s book_marks.EN }
-    ensures { Follows kind image.now s book_marks.EN result }
+    ensures { (kind : ℕ) → Follows kind image.now s book_marks.EN result }
 {
-    let number = end_body(part(image, s.offset + 2, END_BODY)) as usize;
+    let number = images::read::<End>(image, s.offset).before as usize;
     if number != s.index {
-        return refuses(10, s);
+        return Err(refusal_at(10, s));
     }
-    Step::Ended(Layout {
+    Ok(Step::Ended(Layout {
         tasks: s.tasks,
         listed: s.listed,
         inversions: s.inversions,
         ended: s.offset + END_SIZE,
-    })
+    }))
 }
 
 // A whole record, by the class of its mark.
-fn after(image: &[u8], kind: u32, s: Place, k: usize) -> Step
-    requires { Whole image.now s (mark_of k) }
-    ensures { Follows kind image.now s (mark_of k) result }
+fn after(image: &[u8], kind: Kind, s: Place, mark: Mark) -> Result<Step, Located>
+    requires { Whole image.now s (mark_of mark) }
+    ensures { Follows (kind_number kind) image.now s (mark_of mark) result }
 {
-    let row = row_of(k);
-    let class = row.class;
-    match class {
+    match mark.row().class {
         Class::Head => after_head(image, kind, s),
-        Class::Task => after_task(image, kind, s),
-        Class::Option => Step::GoesOn(past(s, k, 1, s.listed, s.inversions)),
-        Class::Listed => Step::GoesOn(past(s, k, 1, s.listed + 1, s.inversions)),
-        Class::Inversion => Step::GoesOn(past(s, k, 1, s.listed, s.inversions + 1)),
-        Class::End => after_end(image, kind, s),
+        Class::Task => Ok(Step::GoesOn(after_task(s))),
+        Class::Option => Ok(Step::GoesOn(past(s, mark, 1, s.listed, s.inversions))),
+        Class::Listed => Ok(Step::GoesOn(past(s, mark, 1, s.listed + 1, s.inversions))),
+        Class::Inversion => Ok(Step::GoesOn(past(s, mark, 1, s.listed, s.inversions + 1))),
+        Class::End => after_end(image, s),
     }
 }
 
 // One record: fewer than two bytes left, mark, cut body, then the record's own tests.
-fn step_at(image: &[u8], kind: u32, s: Place) -> Step
+fn step_at(image: &[u8], kind: Kind, s: Place) -> Result<Step, Located>
     requires { Placed image.now s }
-    ensures { Steps kind image.now s result }
+    ensures { Steps (kind_number kind) image.now s result }
 {
     let at = s.offset;
     let left = image.len() - at;
     if left < 2 {
-        return refuses(1, s);
+        return Err(refusal_at(1, s));
     }
-    let k = mark(image[at], image[at + 1]);
-    if MARKS <= k {
-        return refuses(2, s);
+    let Some(mark) = Mark::find(image[at], image[at + 1]) else {
+        return Err(refusal_at(2, s));
+    };
+    if !allowed(kind, s.rank, mark) {
+        return Err(refusal_at(2, s));
     }
-    if !allowed(kind, s.rank, k) {
-        return refuses(2, s);
+    if left < mark.size() {
+        return Err(refusal_at(1, s));
     }
-    if left < size_of(k) {
-        return refuses(1, s);
-    }
-    after(image, kind, s, k)
-}
-
-#[derive(Clone, Copy)]
-pub enum FrameAnswer {
-    Framed(Layout),
-    Refused(Located),
+    after(image, kind, s, mark)
 }
 
 // How many whole records with a mark stand one behind the other from a place on, counted up to a bound.
-fn run(image: &[u8], from: usize, k: usize, most: usize) -> usize
+fn run(image: &[u8], from: usize, mark: Mark, most: usize) -> usize
     requires { from ≤ length image.now }
-    ensures { RunOf image.now from (mark_of k) most result }
+    ensures { RunOf image.now from (mark_of mark) most result }
 {
-    let size = size_of(k);
+    let size = mark.size();
     let mut at = from;
-    let mut count: usize = 0;
-    'records: loop {
-        if most <= count {
-            break 'records count;
-        }
-        if !images::stands(image, at, k) {
-            break 'records count;
+    for count in 0..most {
+        if !stands(image, at, mark) {
+            return count;
         }
         at += size;
-        count += 1;
     }
+    most
 }
 
 // Past the TK records that stand here and are due.
-fn past_tasks(image: &[u8], kind: u32, s: Place) -> Place
-    requires reached { Reached kind image.now s }
+fn past_tasks(image: &[u8], s: Place) -> Place
+    requires placed { Placed image.now s }
     requires towards { TowardsTasks image.now s }
-    ensures { TasksPassed kind image.now s result }
+    ensures { (kind : ℕ) → Reached kind image.now s → TasksPassed kind image.now s result }
 {
-    let count = run(image, s.offset, TK, s.due);
-    if count < 1 {
+    let count = run(image, s.offset, Mark::TK, s.due);
+    if count == 0 {
         return s;
     }
-    let mut rank: usize = 2;
-    if count < s.due {
-        rank = 1;
-    }
-    Place {
-        index: s.index + count,
-        offset: s.offset + count * TASK_SIZE,
-        rank,
-        due: s.due - count,
-        tasks: s.tasks,
-        listed: s.listed,
-        inversions: s.inversions,
-    }
+    tasks_due(
+        s.index + count,
+        s.offset + count * TASK_SIZE,
+        s.due - count,
+        s.tasks,
+    )
 }
 
-// TS and the tasks framed: the place behind them.
-#[derive(Clone, Copy)]
-pub enum TasksAnswer {
-    Framed(Place),
-    Refused(Located),
-}
-
-// Framing of TS and the tasks.
-pub fn frame_tasks(image: &[u8], kind: u32) -> TasksAnswer
-    ensures { TasksFramed kind image.now result }
+// Framing of TS and the tasks: the place behind them.
+pub fn frame_tasks(image: &[u8], kind: Kind) -> Result<Place, Located>
+    ensures { TasksFramed (kind_number kind) image.now result }
 {
     let mut s = Place {
         index: 0,
@@ -278,69 +219,46 @@ pub fn frame_tasks(image: &[u8], kind: u32) -> TasksAnswer
         listed: 0,
         inversions: 0,
     };
-    'records: loop {
-        if 2 <= s.rank {
-            break 'records TasksAnswer::Framed(s);
-        }
-        match step_at(image, kind, s) {
-            Step::GoesOn(t) => {
-                s = past_tasks(image, kind, t);
-            }
-            Step::Refused(r) => {
-                break 'records TasksAnswer::Refused(r);
-            }
-            Step::Ended(_) => {
-                break 'records TasksAnswer::Refused(refusal_at(2, s));
-            }
+    'records: while s.rank < 2 {
+        match step_at(image, kind, s)? {
+            Step::GoesOn(t) => s = past_tasks(image, t),
+            Step::Ended(_) => return Err(refusal_at(2, s)),
         }
     }
+    Ok(s)
 }
 
 // Framing from a place that it comes to: record by record, left from inside with the first refusal or at EN, behind which nothing may follow where the
 // image is whole.
-pub fn frame_from(image: &[u8], kind: u32, whole: bool, place: Place) -> FrameAnswer
-    requires { Reached kind image.now place }
-    ensures { result ≡ frame_answer image.now (frame_as whole kind image.now) }
+pub fn frame_from(image: &[u8], kind: Kind, whole: bool, place: Place) -> Result<Layout, Located>
+    requires { Reached (kind_number kind) image.now place }
+    ensures { result ≡ frame_answer image.now (frame_as whole (kind_number kind) image.now) }
 {
     let mut s = place;
     'records: loop {
         match step_at(image, kind, s) {
-            Step::GoesOn(t) => {
-                s = t;
-            }
-            Step::Refused(r) => {
-                break 'records FrameAnswer::Refused(r);
-            }
-            Step::Ended(l) => {
-                if whole {
-                    if l.ended < image.len() {
-                        break 'records FrameAnswer::Refused(refusal_at(10, s));
-                    }
+            Ok(Step::GoesOn(t)) => s = t,
+            Ok(Step::Ended(l)) => {
+                if whole && l.ended < image.len() {
+                    return Err(refusal_at(10, s));
                 }
-                break 'records FrameAnswer::Framed(l);
+                return Ok(l);
             }
+            Err(r) => return Err(r),
         }
     }
 }
 
 // Framing of an image of tables, a whole one or the one at the front: its runs of ID and PV records at once.
-pub fn frame(image: &[u8], whole: bool) -> FrameAnswer
+pub fn frame(image: &[u8], whole: bool) -> Result<Layout, Located>
     ensures { result ≡ frame_answer image.now (frame_as whole 2 image.now) }
 {
-    match frame_tasks(image, 2) {
-        TasksAnswer::Refused(r) => FrameAnswer::Refused(r),
-        TasksAnswer::Framed(s) => {
-            let idles = run(image, s.offset, ID, image.len());
-            let t = past(s, ID, idles, s.listed + idles, s.inversions);
-            let inversions = run(image, t.offset, PV, image.len());
-            frame_from(
-                image,
-                2,
-                whole,
-                past(t, PV, inversions, t.listed, t.inversions + inversions),
-            )
-        }
-    }
+    let s = frame_tasks(image, Kind::Tables)?;
+    let idles = run(image, s.offset, Mark::ID, image.len());
+    let t = past(s, Mark::ID, idles, s.listed + idles, s.inversions);
+    let inversions = run(image, t.offset, Mark::PV, image.len());
+    let behind = past(t, Mark::PV, inversions, t.listed, t.inversions + inversions);
+    frame_from(image, Kind::Tables, whole, behind)
 }
 
 // A set's refusal located in the image that the set is read from: its place is the index of TS or of a task's TK.
@@ -348,10 +266,11 @@ pub fn set_refused(r: Refusal) -> Located
     requires { r.place ≤ 16 }
     ensures { result ≡ set_located r }
 {
-    let mut offset: usize = 0;
-    if 0 < r.place {
-        offset = HEAD_SIZE + (r.place - 1) * TASK_SIZE;
-    }
+    let offset = if r.place == 0 {
+        0
+    } else {
+        HEAD_SIZE + (r.place - 1) * TASK_SIZE
+    };
     Located {
         number: r.number,
         place: r.place,
@@ -367,11 +286,9 @@ pub fn read_set(image: &[u8], n: usize) -> TaskSet
 {
     let mut tasks = [NO_TASK; 16];
     let mut at = HEAD_SIZE;
-    let mut i: usize = 0;
-    while i < n {
-        tasks[i] = task_body(part(image, at + 2, TASK_BODY));
+    for i in 0..n {
+        tasks[i] = images::read::<Task>(image, at);
         at += TASK_SIZE;
-        i += 1;
     }
     TaskSet { n: n as u32, tasks }
 }

@@ -10,10 +10,11 @@ use lib.IntN.{ℤ}
 use borrow.Author.Tests.{leb-true, le-leb, lt-leb}
 use Rattle.fields.specs.Number.{Bytes}
 use Rattle.rules.specs.declared.Entry.{Entry}
+use Rattle.rules.specs.declared.Axis.{Axis}
 use Rattle.rules.specs.declared.Layout.{Layout}
 use Rattle.rules.specs.declared.Refusal.{Refusal}
-use Rattle.rules.specs.declared.CheckAnswer.{CheckAnswer}
-use Rattle.rules.specs.declared.CheckAnswer.TheVariants as check_case
+use Rattle.std.specs.Prelude.{Result, Err, ⊤}
+use Rattle.rules.specs.declared.Located.{Located}
 use Rattle.rules.specs.Refusals.{Judged, gives, refuses, refusal, or_else, unless, check_tells, axis_tells}
 use Rattle.rules.specs.Tasks.{Set}
 use Rattle.rules.specs.Framing.{start_place, frame_records, index_of_end, nothing_follows, frame, set_in, tables_in}
@@ -26,19 +27,20 @@ use Rattle.rules.proofs.Cases.{by_judged, by_le, clash, gives_in, then_gives, or
 use Rattle.rules.proofs.Demand2.{rebuilds}
 use Rattle.rules.proofs.Fronts.{front_taken, fronts_more}
 use Rattle.rules.proofs.Promises as book
-use Rattle.hervantyu.specs.Lent.{location_of, TablesChecked, count_or, used_or, Figured}
+use Rattle.hervantyu.specs.Lent.{location_of, TablesChecked, given_or, Figured}
 
 module _ (images : List ℕ) (old : List ℤ) {old-count old-used r count used : ℕ} {w : List ℕ} {left : List ℤ}
     (told : Figured images old old-count old-used r w count used left) where
   -- by what judging the image at the front comes to
   answered : (z : Judged (List ℤ)) → measured_into (length old) images ≡ z →
       (r ≡ (axis_tells (axis_answer (front images) z)).number) × (w ≡ location_of (axis_tells (axis_answer (front images) z)))
-      × (count ≡ count_or (axis_answer (front images) z) old-count) × (used ≡ used_or (axis_answer (front images) z) old-used) × (left ≡ output_after z old)
+      × (count ≡ given_or (λ (a : Axis). a.figures) (axis_answer (front images) z) old-count)
+      × (used ≡ given_or (λ (a : Axis). a.used) (axis_answer (front images) z) old-used) × (left ≡ output_after z old)
   answered z e = (
-    told.told.its_number ∙ ap (λ (y : Judged (List ℤ)). (axis_tells (axis_answer (front images) y)).number) e,
-    told.told.its_location ∙ ap (λ (y : Judged (List ℤ)). location_of (axis_tells (axis_answer (front images) y))) e,
-    told.told.its_count ∙ ap (λ (y : Judged (List ℤ)). count_or (axis_answer (front images) y) old-count) e,
-    told.told.its_used ∙ ap (λ (y : Judged (List ℤ)). used_or (axis_answer (front images) y) old-used) e,
+    told.told.answered.its_number ∙ ap (λ (y : Judged (List ℤ)). (axis_tells (axis_answer (front images) y)).number) e,
+    told.told.answered.its_location ∙ ap (λ (y : Judged (List ℤ)). location_of (axis_tells (axis_answer (front images) y))) e,
+    told.told.its_count ∙ ap (λ (y : Judged (List ℤ)). given_or (λ (a : Axis). a.figures) (axis_answer (front images) y) old-count) e,
+    told.told.its_used ∙ ap (λ (y : Judged (List ℤ)). given_or (λ (a : Axis). a.used) (axis_answer (front images) y) old-used) e,
     told.its_figures ∙ ap (λ (y : Judged (List ℤ)). output_after y old) e,
   )
 
@@ -50,14 +52,14 @@ module _ (images : List ℕ) (old : List ℤ) {old-count old-used r count used :
   too_short fs e l = rw (e, lt-leb (length fs) (length old) l)
 
   -- what is refused is refused as checking the image at the front refuses it
-  refused_check : (q : Refusal) → rebuilt (front images) ≡ refuses q → (check_tables (front images) ≡ check_case.Refused (located (front images) q)) × (measured images ≡ refuses q)
+  refused_check : (q : Refusal) → rebuilt (front images) ≡ refuses q → (check_tables (front images) ≡ Err (located (front images) q)) × (measured images ≡ refuses q)
   unfolding check_tables
   refused_check q e = (rw e, rw e)
 
   measured_some : (i : Timed) → rebuilt (front images) ≡ gives i → measured images ≡ gives (figures_in i)
   measured_some i e = rw e
 
-  refused_number : (q : Refusal) → check_tables (front images) ≡ check_case.Refused (located (front images) q) → (1 ≤ q.number) × (q.number ≤ 19)
+  refused_number : (q : Refusal) → check_tables (front images) ≡ Err (located (front images) q) → (1 ≤ q.number) × (q.number ≤ 19)
   refused_number q e = elim (book.table_numbers (front images) (located (front images) q) e) [ inl n ↦ (n.0, omega (arith, n.1)) | inr n ↦ (omega (arith, n.0), n.1) ]
 
   refused_answer : (q : Refusal) → measured images ≡ refuses q → measured_into (length old) images ≡ refuses q
@@ -116,8 +118,8 @@ module _ (images : List ℕ) (old : List ℤ) {old-count old-used r count used :
       let c = refused_check q e in
       let a = answered _ (refused_answer q c.1) in
       record {
-        its_number = a.0 ∙ sym (ap (λ (y : CheckAnswer). (check_tells y).number) c.0);
-        its_location = a.1 ∙ sym (ap (λ (y : CheckAnswer). location_of (check_tells y)) c.0);
+        its_number = a.0 ∙ sym (ap (λ (y : Result ⊤ Located). (check_tells y).number) c.0);
+        its_location = a.1 ∙ sym (ap (λ (y : Result ⊤ Located). location_of (check_tells y)) c.0);
       })
 
   -- and nothing else is written

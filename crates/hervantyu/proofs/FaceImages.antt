@@ -10,11 +10,9 @@ use Rattle.fields.specs.Number.{Bytes}
 use Rattle.rules.specs.declared.Entry.{Entry}
 use Rattle.rules.specs.declared.Refusal.{Refusal}
 use Rattle.rules.specs.declared.Located.{Located}
-use Rattle.rules.specs.declared.CheckAnswer.TheVariants as check_case
-use Rattle.rules.specs.declared.MakeAnswer.{MakeAnswer}
-use Rattle.rules.specs.declared.MakeAnswer.TheVariants.{Made, Refused}
+use Rattle.std.specs.Prelude.{Result, Ok, Err}
 use Rattle.rules.specs.Tasks.{Set}
-use Rattle.rules.specs.Refusals.{gives, refusal, Told, tells, check_tells, make_tells}
+use Rattle.rules.specs.Refusals.{gives, refusal}
 use Rattle.rules.specs.Priority.{slot}
 use Rattle.rules.specs.Located.{located}
 use Rattle.rules.specs.Operations.{Timed, read_timetable, check_answer, check_timetable, check_tables, derive, rebuild}
@@ -24,27 +22,19 @@ use Rattle.rules.proofs.Demand2.{derives, rebuilds, derive_made, rebuild_made}
 use Rattle.rules.proofs.ImageOrder.{timetable_refused_at, tables_refused_at, derive_refused_at, rebuild_refused_at}
 use Rattle.rules.proofs.MakingOrder.{with_its_tables, with_its_timetable, its_table_image}
 use Rattle.rules.proofs.Promises as book
-use Rattle.hervantyu.specs.Lent.{location_of, TimetableChecked, TablesChecked, length_or, Written, Derived, Rebuilt}
-use Rattle.hervantyu.proofs.Returned.{Returned, zero_exactly, refused_with, NumberedIn, check_returned, make_returned}
-
--- the place is the first number of a location
-place_in : {w : List ℕ} {place offset : ℕ} → w ≡ place ∷ offset ∷ [] → slot w 0 ≡ place
-place_in e = ap (λ (x : List ℕ). slot x 0) e
-
--- and where nothing is refused both are 0
-nowhere : (t : Told) {w values : List ℕ} → w ≡ location_of t → t ≡ tells values → w ≡ 0 ∷ 0 ∷ []
-nowhere t e f = e ∙ ap location_of f
+use Rattle.hervantyu.specs.Lent.{TimetableChecked, TablesChecked, length_or, Written, Derived, Rebuilt}
+use Rattle.hervantyu.proofs.Returned.{Returned, zero_exactly, refused_with, NumberedIn, answer_told, answer_returned, check_returned}
 
 -- `hv_check_timetable`: what is returned says what checking answers
 module _ (image : List ℕ) {r : ℕ} {w : List ℕ} (checked : TimetableChecked image r w) where
-  pub returned_timetable : Returned (check_timetable image ≡ check_case.Accepted) (λ q. check_timetable image ≡ check_case.Refused (located image q)) r (slot w 0)
+  pub returned_timetable : Returned (check_timetable image ≡ Ok tt) (λ q. check_timetable image ≡ Err (located image q)) r (slot w 0)
   returned_timetable =
-      check_returned image (check_timetable image) checked.its_number (place_in checked.its_location)
+      check_returned image checked
       (λ q e. ((book.timetable_numbers image q e).0, (timetable_refused_at image q e).there))
 
   -- with 0 in both of the location's numbers where the image is accepted
   pub timetable_nowhere : r ≡ 0 → w ≡ 0 ∷ 0 ∷ []
-  timetable_nowhere z = nowhere _ checked.its_location (ap check_tells ((zero_exactly returned_timetable).0 z))
+  timetable_nowhere z = (answer_told checked ((zero_exactly returned_timetable).0 z)).its_location
 
   -- and the byte that the place names
   pub timetable_byte : Bytes image → TheByte 1 image r (slot w 0) (slot w 1)
@@ -65,15 +55,15 @@ module _ (image : List ℕ) {r : ℕ} {w : List ℕ} (checked : TimetableChecked
 
 -- `hv_check_tables`
 module _ (image : List ℕ) {r : ℕ} {w : List ℕ} (checked : TablesChecked image r w) where
-  pub returned_tables : Returned (check_tables image ≡ check_case.Accepted) (λ q. check_tables image ≡ check_case.Refused (located image q)) r (slot w 0)
-  returned_tables = check_returned image (check_tables image) checked.its_number (place_in checked.its_location) numbered
+  pub returned_tables : Returned (check_tables image ≡ Ok tt) (λ q. check_tables image ≡ Err (located image q)) r (slot w 0)
+  returned_tables = check_returned image checked numbered
     where
-      numbered : (q : Located) → check_tables image ≡ check_case.Refused q → NumberedIn image q
+      numbered : (q : Located) → check_tables image ≡ Err q → NumberedIn image q
       numbered q e = (elim (book.table_numbers image q e) [ inl n ↦ n.0 | inr n ↦ omega (arith, n.0) ], (tables_refused_at image q e).there)
 
   -- with 0 in both of the location's numbers where the image is accepted
   pub tables_nowhere : r ≡ 0 → w ≡ 0 ∷ 0 ∷ []
-  tables_nowhere z = nowhere _ checked.its_location (ap check_tells ((zero_exactly returned_tables).0 z))
+  tables_nowhere z = (answer_told checked ((zero_exactly returned_tables).0 z)).its_location
 
   -- and the byte that the place names
   pub tables_byte : Bytes image → TheByte 2 image r (slot w 0) (slot w 1)
@@ -93,21 +83,21 @@ module _ (image : List ℕ) {r : ℕ} {w : List ℕ} (checked : TablesChecked im
       ]
 
 -- what is written of an answer: its length and the output, or on a refusal what was there
-module _ {answer : MakeAnswer} {after w : List ℕ} {old-length r l : ℕ} {out : List ℕ} (written : Written answer after old-length r w l out) where
-  made_left : (n : ℕ) → answer ≡ Made n → (l ≡ n) × (out ≡ after)
-  made_left n e = (written.told.its_length ∙ ap (λ (a : MakeAnswer). length_or a old-length) e, written.its_output)
+module _ {answer : Result ℕ Located} {after w : List ℕ} {old-length r l : ℕ} {out : List ℕ} (written : Written answer after old-length r w l out) where
+  made_left : (n : ℕ) → answer ≡ Ok n → (l ≡ n) × (out ≡ after)
+  made_left n e = (written.told.its_length ∙ ap (λ (a : Result ℕ Located). length_or a old-length) e, written.its_output)
 
-  refused_left : (q : Located) → answer ≡ Refused q → (l ≡ old-length) × (out ≡ after)
-  refused_left q e = (written.told.its_length ∙ ap (λ (a : MakeAnswer). length_or a old-length) e, written.its_output)
+  refused_left : (q : Located) → answer ≡ Err q → (l ≡ old-length) × (out ≡ after)
+  refused_left q e = (written.told.its_length ∙ ap (λ (a : Result ℕ Located). length_or a old-length) e, written.its_output)
 
 -- a result of some length is not refused
-made_not_refused : {answer : MakeAnswer} {n : ℕ} {q : Located} {A : Type 0} → answer ≡ Made n → answer ≡ Refused q → A
+made_not_refused : {answer : Result ℕ Located} {n : ℕ} {q : Located} {A : Type 0} → answer ≡ Ok n → answer ≡ Err q → A
 made_not_refused e f = clash (cc)
 
 -- `hv_derive`
 module _ (image old : List ℕ) {old-length r l : ℕ} {w out : List ℕ} (derived : Derived image old old-length r w l out) where
   -- a refusal of deriving is one of checking, or 20
-  derive_number : (q : Located) → derive image old ≡ Refused q → ((1 ≤ q.number) × (q.number ≤ 16)) ⊎ (q.number ≡ 20)
+  derive_number : (q : Located) → derive image old ≡ Err q → ((1 ≤ q.number) × (q.number ≤ 16)) ⊎ (q.number ≡ 20)
   derive_number q e =
       elim (book.derive_refusals image old q e).0 [
         | inl c ↦ inl (book.timetable_numbers image q c)
@@ -115,15 +105,15 @@ module _ (image old : List ℕ) {old-length r l : ℕ} {w out : List ℕ} (deriv
       ]
 
   -- what is returned says what deriving answers
-  pub returned_derive : Returned ((n : ℕ) × (derive image old ≡ Made n)) (λ q. derive image old ≡ Refused (located image q)) r (slot w 0)
-  returned_derive = make_returned image (derive image old) derived.told.its_number (place_in derived.told.its_location) numbered
+  pub returned_derive : Returned ((n : ℕ) × (derive image old ≡ Ok n)) (λ q. derive image old ≡ Err (located image q)) r (slot w 0)
+  returned_derive = answer_returned derived.told.answered image numbered
     where
-      numbered : (q : Located) → derive image old ≡ Refused q → NumberedIn image q
+      numbered : (q : Located) → derive image old ≡ Err q → NumberedIn image q
       numbered q e = (elim (derive_number q e) [ inl n ↦ n.0 | inr n ↦ omega (arith, n) ], derive_refused_at image old q e)
 
   -- with the byte that the place names
   pub derive_byte : Bytes image → TheByte 1 image r (slot w 0) (slot w 1)
-  derive_byte b = rw (derived.told.its_number, derived.told.its_location) (book.derive_byte image b old (derive image old) refl)
+  derive_byte b = rw (derived.told.answered.its_number, derived.told.answered.its_location) (book.derive_byte image b old (derive image old) refl)
 
   -- the numbers are 0 to 16 and 20
   pub derive_numbers : (r ≤ 16) ⊎ (r ≡ 20)
@@ -142,7 +132,7 @@ module _ (image old : List ℕ) {old-length r l : ℕ} {w out : List ℕ} (deriv
       let made = book.derive_writes image old both room in
       let zero = returned_derive.given (length result, made.0) in
       let left = made_left derived (length result) made.0 in
-      (zero.0, nowhere _ derived.told.its_location (ap make_tells made.0), left.0, left.1 ∙ made.1)
+      (zero.0, (answer_told derived.told.answered made.0).its_location, left.0, left.1 ∙ made.1)
 
   -- where 0 is returned there is room for it
   pub derive_room : r ≡ 0 → {result : List ℕ} → BothImages image result → length result ≤ length old
@@ -172,7 +162,7 @@ module _ (image old : List ℕ) {old-length r l : ℕ} {w out : List ℕ} (deriv
 -- `hv_rebuild`
 module _ (image old : List ℕ) {old-length r l : ℕ} {w out : List ℕ} (rebuilt : Rebuilt image old old-length r w l out) where
   -- a refusal of rebuilding is one of checking, or 20
-  rebuild_number : (q : Located) → rebuild image old ≡ Refused q → ((1 ≤ q.number) × (q.number ≤ 10)) ⊎ ((17 ≤ q.number) × (q.number ≤ 20))
+  rebuild_number : (q : Located) → rebuild image old ≡ Err q → ((1 ≤ q.number) × (q.number ≤ 10)) ⊎ ((17 ≤ q.number) × (q.number ≤ 20))
   rebuild_number q e =
       elim (book.rebuild_refusals image old q e).0 [
         | inl c ↦ elim (book.table_numbers image q c) [ inl n ↦ inl n | inr n ↦ inr (n.0, omega (arith, n.1)) ]
@@ -180,15 +170,15 @@ module _ (image old : List ℕ) {old-length r l : ℕ} {w out : List ℕ} (rebui
       ]
 
   -- what is returned says what rebuilding answers
-  pub returned_rebuild : Returned ((n : ℕ) × (rebuild image old ≡ Made n)) (λ q. rebuild image old ≡ Refused (located image q)) r (slot w 0)
-  returned_rebuild = make_returned image (rebuild image old) rebuilt.told.its_number (place_in rebuilt.told.its_location) numbered
+  pub returned_rebuild : Returned ((n : ℕ) × (rebuild image old ≡ Ok n)) (λ q. rebuild image old ≡ Err (located image q)) r (slot w 0)
+  returned_rebuild = answer_returned rebuilt.told.answered image numbered
     where
-      numbered : (q : Located) → rebuild image old ≡ Refused q → NumberedIn image q
+      numbered : (q : Located) → rebuild image old ≡ Err q → NumberedIn image q
       numbered q e = (elim (rebuild_number q e) [ inl n ↦ n.0 | inr n ↦ omega (arith, n.0) ], rebuild_refused_at image old q e)
 
   -- with the byte that the place names
   pub rebuild_byte : Bytes image → TheByte 2 image r (slot w 0) (slot w 1)
-  rebuild_byte b = rw (rebuilt.told.its_number, rebuilt.told.its_location) (book.rebuild_byte image b old (rebuild image old) refl)
+  rebuild_byte b = rw (rebuilt.told.answered.its_number, rebuilt.told.answered.its_location) (book.rebuild_byte image b old (rebuild image old) refl)
 
   -- the numbers are 0 to 10 and 17 to 20
   pub rebuild_numbers : (r ≤ 10) ⊎ ((17 ≤ r) × (r ≤ 20))
@@ -210,7 +200,7 @@ module _ (image old : List ℕ) {old-length r l : ℕ} {w out : List ℕ} (rebui
       let made = book.rebuild_writes image old both room in
       let zero = returned_rebuild.given (length result, made.0) in
       let left = made_left rebuilt (length result) made.0 in
-      (zero.0, nowhere _ rebuilt.told.its_location (ap make_tells made.0), left.0, left.1 ∙ made.1)
+      (zero.0, (answer_told rebuilt.told.answered made.0).its_location, left.0, left.1 ∙ made.1)
 
   -- where 0 is returned there is room for it
   pub rebuild_room : r ≡ 0 → {result : List ℕ} → BothImages result image → length result ≤ length old
@@ -259,15 +249,15 @@ pub derived_accepted : (image old : List ℕ) {old-length l : ℕ} {w out : List
     {r' : ℕ} {w' : List ℕ} → TablesChecked (take l out) r' w' → (r' ≡ 0) × (w' ≡ 0 ∷ 0 ∷ [])
 unfolding check_tables
 derived_accepted image old {l = l} {out = out} b derived checked =
-    let accepted : check_tables (take l out) ≡ check_case.Accepted = ap (check_answer (take l out)) (rebuilds (derived_both image old b derived).tables) in
-    (((returned_tables (take l out) checked).given accepted).0, nowhere _ checked.its_location (ap check_tells accepted))
+    let accepted : check_tables (take l out) ≡ Ok tt = ap (check_answer (take l out)) (rebuilds (derived_both image old b derived).tables) in
+    (((returned_tables (take l out) checked).given accepted).0, (answer_told checked accepted).its_location)
 
 pub rebuilt_accepted : (image old : List ℕ) {old-length l : ℕ} {w out : List ℕ} → Bytes image → Rebuilt image old old-length 0 w l out →
     {r' : ℕ} {w' : List ℕ} → TimetableChecked (take l out) r' w' → (r' ≡ 0) × (w' ≡ 0 ∷ 0 ∷ [])
 unfolding check_timetable
 rebuilt_accepted image old {l = l} {out = out} b rebuilt checked =
-    let accepted : check_timetable (take l out) ≡ check_case.Accepted = ap (check_answer (take l out)) (derives (rebuilt_both image old b rebuilt).timetable) in
-    (((returned_timetable (take l out) checked).given accepted).0, nowhere _ checked.its_location (ap check_tells accepted))
+    let accepted : check_timetable (take l out) ≡ Ok tt = ap (check_answer (take l out)) (derives (rebuilt_both image old b rebuilt).timetable) in
+    (((returned_timetable (take l out) checked).given accepted).0, (answer_told checked accepted).its_location)
 
 -- there and back: from what `hv_derive` wrote `hv_rebuild` writes the bytes that `hv_derive` was lent
 pub there_and_back : (image old : List ℕ) {old-length l : ℕ} {w out : List ℕ} → Bytes image → Derived image old old-length 0 w l out →

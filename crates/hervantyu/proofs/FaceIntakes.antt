@@ -11,8 +11,7 @@ use Rattle.rules.specs.declared.Refusal.{Refusal}
 use Rattle.rules.specs.declared.Located.{Located}
 use Rattle.rules.specs.declared.Intake.{Intake}
 use Rattle.rules.specs.declared.Intake.TheVariants.{Shut, Open}
-use Rattle.rules.specs.declared.CheckAnswer.{CheckAnswer}
-use Rattle.rules.specs.declared.CheckAnswer.TheVariants.{Accepted, Refused}
+use Rattle.std.specs.Prelude.{Result, Ok, Err, ⊤}
 use Rattle.rules.specs.Refusals.{Judged, gives, refuses, refusal, take_tells}
 use Rattle.rules.specs.Priority.{slot}
 use Rattle.rules.specs.Operations.{check_tables, output_after}
@@ -21,7 +20,6 @@ use Rattle.rules.proofs.Cases.{by_eq, by_le}
 use Rattle.rules.proofs.Arrays.{slot_element}
 use Rattle.intake.proofs.Fragments.{within_inside, within_above, into_fits, into_not, joined_length}
 use Rattle.hervantyu.specs.Lent.{Holds, Fits, TablesChecked, CheckTold, length_or, MakeTold, Written, Rebuilt, Taken, FragmentTaken, IntakeClosed, IntakeRebuilt}
-use Rattle.hervantyu.proofs.ToldAnswers.{make_told}
 use Rattle.hervantyu.proofs.Returned.{zero_exactly, refused_with}
 use Rattle.hervantyu.proofs.FaceImages.{returned_tables, tables_numbers, rebuild_keeps, rebuild_numbers}
 
@@ -159,31 +157,34 @@ module _ {numbers buffer fragment numbers' buffer' : List ℕ} {r : ℕ} (taken 
   takes = record { answer = ap intake_from taken.taken.its_numbers ∙ back (holding (joined (intake_from numbers) buffer fragment)); output = taken.taken.its_buffer }
 
 -- what closing tells of an answer of checking: the number and the location are those, and the length is that of the image
-checked_told : (a : CheckAnswer) (n : ℕ) {old-length r l : ℕ} {w : List ℕ} → MakeTold (accepted_length n a) old-length r w l → CheckTold a r w
-checked_told Accepted n t = record { its_number = t.its_number; its_location = t.its_location }
-checked_told (Refused q) n t = record { its_number = t.its_number; its_location = t.its_location }
+checked_told : (a : Result ⊤ Located) (n : ℕ) {old-length r l : ℕ} {w : List ℕ} → MakeTold (accepted_length n a) old-length r w l → CheckTold a r w
+checked_told (Ok tt) n t = record { its_number = t.answered.its_number; its_location = t.answered.its_location }
+checked_told (Err q) n t = record { its_number = t.answered.its_number; its_location = t.answered.its_location }
 
-accepted_told : {a : CheckAnswer} (n : ℕ) {old-length r l : ℕ} {w : List ℕ} → a ≡ Accepted → MakeTold (accepted_length n a) old-length r w l → l ≡ n
-accepted_told n {old-length = old} e t = t.its_length ∙ ap (λ (x : CheckAnswer). length_or (accepted_length n x) old) e
+accepted_told : {a : Result ⊤ Located} (n : ℕ) {old-length r l : ℕ} {w : List ℕ} → a ≡ Ok tt → MakeTold (accepted_length n a) old-length r w l → l ≡ n
+accepted_told n {old-length = old} e t = t.its_length ∙ ap (λ (x : Result ⊤ Located). length_or (accepted_length n x) old) e
 
-refused_told : {a : CheckAnswer} (n : ℕ) {old-length r l : ℕ} {w : List ℕ} {q : Located} → a ≡ Refused q → MakeTold (accepted_length n a) old-length r w l →
+refused_told : {a : Result ⊤ Located} (n : ℕ) {old-length r l : ℕ} {w : List ℕ} {q : Located} → a ≡ Err q → MakeTold (accepted_length n a) old-length r w l →
     l ≡ old-length
-refused_told n {old-length = old} e t = t.its_length ∙ ap (λ (x : CheckAnswer). length_or (accepted_length n x) old) e
+refused_told n {old-length = old} e t = t.its_length ∙ ap (λ (x : Result ⊤ Located). length_or (accepted_length n x) old) e
 
 -- `hv_intake_close`
 module _ {numbers buffer w numbers' : List ℕ} {old-length r l : ℕ} (closing : IntakeClosed numbers buffer old-length r w l numbers') where
+  closes_as : {z : Judged (List ℕ)} → held (intake_from numbers) buffer ≡ z → MakeTold (close_held z) old-length r w l
+  closes_as e = subst (λ (z : Judged (List ℕ)). MakeTold (close_held z) old-length r w l) e closing.told
+
   -- of bytes that are held it returns and leaves what `hv_check_tables` does of them, and their number as the length where they are accepted
   pub closes : {bytes : List ℕ} → held (intake_from numbers) buffer ≡ gives bytes →
       TablesChecked bytes r w × (r ≡ 0 → l ≡ length bytes) × (1 ≤ r → l ≡ old-length)
   closes {bytes} e =
-      let told = make_told (ap close_held e) closing.told in
+      let told = closes_as e in
       let checked = checked_told (check_tables bytes) (length bytes) told in
       let returned = returned_tables bytes checked in
       (checked, λ z. accepted_told (length bytes) ((zero_exactly returned).0 z) told, λ some. refused_told (length bytes) (refused_with returned some) told)
 
   -- where nothing is held it is 20
   pub closes_shut : held (intake_from numbers) buffer ≡ shut → (r ≡ 20) × (w ≡ 0 ∷ 0 ∷ []) × (l ≡ old-length)
-  closes_shut e = let told = make_told (ap close_held e) closing.told in (told.its_number, told.its_location, told.its_length)
+  closes_shut e = let told = closes_as e in (told.answered.its_number, told.answered.its_location, told.its_length)
 
   -- so of any two numbers and any buffer
   pub close_checks : Holds numbers buffer → TablesChecked (take (slot numbers 1) buffer) r w
@@ -224,7 +225,7 @@ module _ {numbers buffer old w out numbers' : List ℕ} {old-length r l : ℕ} (
 
   -- where nothing is held it is 20
   pub rebuilds_shut : held (intake_from numbers) buffer ≡ shut → (r ≡ 20) × (w ≡ 0 ∷ 0 ∷ []) × (l ≡ old-length) × (out ≡ old)
-  rebuilds_shut e = let t = written_as e in (t.told.its_number, t.told.its_location, t.told.its_length, t.its_output)
+  rebuilds_shut e = let t = written_as e in (t.told.answered.its_number, t.told.answered.its_location, t.told.its_length, t.its_output)
 
   -- so of any two numbers and any buffer
   pub closing_rebuilds : Holds numbers buffer → Rebuilt (take (slot numbers 1) buffer) old old-length r w l out

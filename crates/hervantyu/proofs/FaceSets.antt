@@ -7,8 +7,7 @@ use native.Mathlib.Omega.{arith}
 use Rattle.rules.specs.declared.TaskSet.{TaskSet}
 use Rattle.rules.specs.declared.Figures.{Figures}
 use Rattle.rules.specs.declared.Refusal.{Refusal}
-use Rattle.rules.specs.declared.SetAnswer.{SetAnswer}
-use Rattle.rules.specs.declared.SetAnswer.TheVariants.{Good, Refused}
+use Rattle.std.specs.Prelude.{Result, Ok, Err}
 use Rattle.rules.specs.Refusals.{set_tells}
 use Rattle.rules.specs.Tasks.{judge_set}
 use Rattle.rules.proofs.Promises as book
@@ -24,16 +23,16 @@ module _ {n : ℕ} {numbers : List ℕ} {old-hyperperiod old-jobs r p h j : ℕ}
   lent = set_from n numbers 0
 
   -- what is returned says what judging answers
-  pub returned_set : Returned ((f : Figures) × (judge_set lent ≡ Good f)) (λ q. judge_set lent ≡ Refused q) r p
+  pub returned_set : Returned ((f : Figures) × (judge_set lent ≡ Ok f)) (λ q. judge_set lent ≡ Err q) r p
   returned_set =
       set_returned (judge_set lent) judged.its_number judged.its_place
       (λ q e. let n = book.set_refusals lent q e in omega (arith, n.1))
 
   -- figures that are answered are left in the lent numbers
-  pub figures_left : (f : Figures) → judge_set lent ≡ Good f → (h ≡ f.hyperperiod) × (j ≡ f.jobs)
+  pub figures_left : (f : Figures) → judge_set lent ≡ Ok f → (h ≡ f.hyperperiod) × (j ≡ f.jobs)
   figures_left f e = (
-    judged.its_hyperperiod ∙ ap (λ (a : SetAnswer). value_or (set_tells a) 0 old-hyperperiod) e,
-    judged.its_jobs ∙ ap (λ (a : SetAnswer). value_or (set_tells a) 1 old-jobs) e,
+    judged.its_hyperperiod ∙ ap (λ (a : Result Figures Refusal). value_or (set_tells a) 0 old-hyperperiod) e,
+    judged.its_jobs ∙ ap (λ (a : Result Figures Refusal). value_or (set_tells a) 1 old-jobs) e,
   )
 
   -- 0 is returned, and these are the figures left, exactly where the set is good and they are its figures
@@ -46,7 +45,7 @@ module _ {n : ℕ} {numbers : List ℕ} {old-hyperperiod old-jobs r p h j : ℕ}
             let hyperperiod : g.0.hyperperiod ≡ f.hyperperiod = sym left.0 ∙ w.1 in
             let jobs : g.0.jobs ≡ f.jobs = sym left.1 ∙ w.2 in
             let same : g.0 ≡ f = λ i. record { hyperperiod = hyperperiod i; jobs = jobs i } in
-            (exactly f).0 (g.1 ∙ ap Good same),
+            (exactly f).0 (g.1 ∙ ap Ok same),
         λ good.
             let e = (exactly f).1 good in
             let left = figures_left f e in

@@ -9,13 +9,10 @@ use lib.ListN.{length, replicate}
 use Rattle.fields.specs.Number.{Bytes}
 use Rattle.rules.specs.declared.Refusal.{Refusal}
 use Rattle.rules.specs.declared.Located.{Located}
-use Rattle.rules.specs.declared.Start.{Start as StartOf}
-use Rattle.rules.specs.declared.CheckAnswer.{CheckAnswer}
-use Rattle.rules.specs.declared.CheckAnswer.TheVariants as check_case
-use Rattle.rules.specs.declared.StartAnswer.{StartAnswer}
-use Rattle.rules.specs.declared.StartAnswer.TheVariants.{Start, Refused}
+use Rattle.rules.specs.declared.Start.{Start}
 use Rattle.rules.specs.declared.Dispatcher.{Dispatcher as State}
 use Rattle.rules.specs.declared.Turn.{Turn}
+use Rattle.std.specs.Prelude.{Result, Ok, Err, ⊤}
 use Rattle.rules.specs.Refusals.{refusal, First, check_tells, start_tells}
 use Rattle.rules.specs.Located.{bare}
 use Rattle.rules.specs.Operations.{check_tables}
@@ -35,9 +32,9 @@ stopped_numbers : numbers stopped ≡ replicate number_count 0
 stopped_numbers = refl
 
 -- the start after a refusal
-refused_start : {turn : Turn} {old-start start state : List ℕ} {r : ℕ} → TurnTold turn old-start r start state → (q : Located) → turn.answer ≡ Refused q →
+refused_start : {turn : Turn} {old-start start state : List ℕ} {r : ℕ} → TurnTold turn old-start r start state → (q : Located) → turn.answer ≡ Err q →
     start ≡ old-start
-refused_start {old-start = old-start} told q e = told.told.its_start ∙ ap (λ (a : StartAnswer). start_or a old-start) e
+refused_start {old-start = old-start} told q e = told.told.its_start ∙ ap (λ (a : Result Start Located). start_or a old-start) e
 
 -- `hv_begin`
 module _ {image old-start : List ℕ} {r : ℕ} {w start state : List ℕ} (begun : Begun image old-start r w start state) where
@@ -45,40 +42,40 @@ module _ {image old-start : List ℕ} {r : ℕ} {w start state : List ℕ} (begu
   pub begin_checks : Bytes image → TablesChecked image r w
   begin_checks are-bytes = by_check (check_tables image) refl
     where
-      told : {a : StartAnswer} {c : CheckAnswer} → (begin image).answer ≡ a → check_tables image ≡ c → (start_tells a).number ≡ (check_tells c).number →
+      told : {a : Result Start Located} {c : Result ⊤ Located} → (begin image).answer ≡ a → check_tables image ≡ c → (start_tells a).number ≡ (check_tells c).number →
           location_of (start_tells a) ≡ location_of (check_tells c) → TablesChecked image r w
       told e f number location = record {
         its_number =
-            begun.turn_told.told.its_number ∙ ap (λ (x : StartAnswer). (start_tells x).number) e ∙ number
-            ∙ sym (ap (λ (x : CheckAnswer). (check_tells x).number) f);
+            begun.turn_told.told.its_number ∙ ap (λ (x : Result Start Located). (start_tells x).number) e ∙ number
+            ∙ sym (ap (λ (x : Result ⊤ Located). (check_tells x).number) f);
         its_location =
-            begun.its_location ∙ ap (λ (x : StartAnswer). location_of (start_tells x)) e ∙ location
-            ∙ sym (ap (λ (x : CheckAnswer). location_of (check_tells x)) f);
+            begun.its_location ∙ ap (λ (x : Result Start Located). location_of (start_tells x)) e ∙ location
+            ∙ sym (ap (λ (x : Result ⊤ Located). location_of (check_tells x)) f);
       }
 
-      by_check : (c : CheckAnswer) → check_tables image ≡ c → TablesChecked image r w
-      by_check check_case.Accepted c = told (book.beginning_starts image are-bytes c).1 c refl refl
-      by_check (check_case.Refused q) c = told (ap (λ (t : Turn). t.answer) (book.beginning_refuses image q c)) c refl refl
+      by_check : (c : Result ⊤ Located) → check_tables image ≡ c → TablesChecked image r w
+      by_check (Ok tt) c = told (book.beginning_starts image are-bytes c).1 c refl refl
+      by_check (Err q) c = told (ap (λ (t : Turn). t.answer) (book.beginning_refuses image q c)) c refl refl
 
   -- a refusal leaves the start as it was, and every number of the state 0
   pub begin_leaves : 1 ≤ r → (start ≡ old-start) × (state ≡ replicate number_count 0)
   begin_leaves l = by_answer (begin image).answer refl
     where
-      by_answer : (a : StartAnswer) → (begin image).answer ≡ a → (start ≡ old-start) × (state ≡ replicate number_count 0)
-      by_answer (Start s) e =
-          absurd (omega (arith, l, begun.turn_told.told.its_number ∙ ap (λ (a : StartAnswer). (start_tells a).number) e))
-      by_answer (Refused q) e =
+      by_answer : (a : Result Start Located) → (begin image).answer ≡ a → (start ≡ old-start) × (state ≡ replicate number_count 0)
+      by_answer (Ok s) e =
+          absurd (omega (arith, l, begun.turn_told.told.its_number ∙ ap (λ (a : Result Start Located). (start_tells a).number) e))
+      by_answer (Err q) e =
           (refused_start begun.turn_told q e, begun.turn_told.its_numbers ∙ ap numbers (refused_stopped image q e) ∙ stopped_numbers)
 
 -- the refusal in an answer is what it refuses
-refusing : (a : StartAnswer) (q : Refusal) → start_refusal a ≡ some q → (w : Located) × (a ≡ Refused w) × (bare w ≡ q)
-refusing (Start s) q e = clash (cc)
-refusing (Refused w) q e = (w, refl, cc)
+refusing : (a : Result Start Located) (q : Refusal) → start_refusal a ≡ some q → (w : Located) × (a ≡ Err w) × (bare w ≡ q)
+refusing (Ok s) q e = clash (cc)
+refusing (Err w) q e = (w, refl, cc)
 
 -- and none in a start
-none_in : (a : StartAnswer) → ((s : StartOf) × (a ≡ Start s)) ↔ (start_refusal a ≡ none)
-none_in (Start s) = (λ w. refl, λ e. (s, refl))
-none_in (Refused w) = (λ e. clash (cc e.1), λ e. clash (cc))
+none_in : (a : Result Start Located) → ((s : Start) × (a ≡ Ok s)) ↔ (start_refusal a ≡ none)
+none_in (Ok s) = (λ w. refl, λ e. (s, refl))
+none_in (Err w) = (λ e. clash (cc e.1), λ e. clash (cc))
 
 -- `hv_go_on`
 module _ (image old-state : List ℕ) (end : ℕ) {old-start start state : List ℕ} {r : ℕ}
@@ -95,13 +92,13 @@ module _ (image old-state : List ℕ) (end : ℕ) {old-start start state : List 
       subst (λ (x : Refusal). (21 ≤ x.number) × (x.number ≤ 25) × Leaves (state_from old-state) x.number turn.state) same its
 
   -- what is returned says what going on answers, with place 0
-  pub returned_go_on : Returned ((s : StartOf) × (turn.answer ≡ Start s)) (λ q. start_refusal turn.answer ≡ some q) r 0
+  pub returned_go_on : Returned ((s : Start) × (turn.answer ≡ Ok s)) (λ q. start_refusal turn.answer ≡ some q) r 0
   returned_go_on =
       start_returned turn.answer gone-on.told.its_number (no_place turn.answer refl) (λ q e. omega (arith, (leaving q e).0))
     where
-      no_place : (a : StartAnswer) → turn.answer ≡ a → 0 ≡ (start_tells a).place
-      no_place (Start s) e = refl
-      no_place (Refused q) e = sym (book.going_on_leaves image (state_from old-state) end q e).2
+      no_place : (a : Result Start Located) → turn.answer ≡ a → 0 ≡ (start_tells a).place
+      no_place (Ok s) e = refl
+      no_place (Err q) e = sym (book.going_on_leaves image (state_from old-state) end q e).2
 
   -- 0 exactly where no test refuses
   pub go_on_passes : (r ≡ 0) ↔ First (going_tests image (state_from old-state) end) none

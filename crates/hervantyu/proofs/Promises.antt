@@ -14,9 +14,9 @@ use Rattle.fields.specs.Number.{Bytes}
 use Rattle.rules.specs.declared.Entry.{Entry}
 use Rattle.rules.specs.declared.Figures.{Figures}
 use Rattle.rules.specs.declared.Refusal.{Refusal}
-use Rattle.rules.specs.declared.CheckAnswer.{CheckAnswer}
-use Rattle.rules.specs.declared.MakeAnswer.{MakeAnswer}
 use Rattle.rules.specs.declared.Turn.{Turn}
+use Rattle.std.specs.Prelude.{Result, ⊤}
+use Rattle.rules.specs.declared.Located.{Located}
 use Rattle.rules.specs.Refusals.{gives, refuses, refusal, First, Told}
 use Rattle.rules.specs.Tasks.{Set, task, release, due, all_jobs, hyperperiod, memory_tests, judge_set}
 use Rattle.rules.specs.Timetable.{entry_at, job_at}
@@ -63,15 +63,15 @@ one_set_outcome a b = (
 )
 
 -- two outcomes of plain checking that answers the same are equal: the number and the location, that is the place and the byte offset
-pub one_check_outcome : {answer : CheckAnswer} {r r' : ℕ} {w w' : List ℕ} → CheckTold answer r w → CheckTold answer r' w' → (r ≡ r') × (w ≡ w')
+pub one_check_outcome : {answer : Result ⊤ Located} {r r' : ℕ} {w w' : List ℕ} → CheckTold answer r w → CheckTold answer r' w' → (r ≡ r') × (w ≡ w')
 one_check_outcome a b = (same a.its_number b.its_number, same a.its_location b.its_location)
 
 -- two outcomes of deriving or rebuilding that answers the same are equal: the number, the location, what the lent length holds, and every byte of the output
-pub one_written_outcome : {answer : MakeAnswer} {after out out' w w' : List ℕ} {old-length r l r' l' : ℕ} →
+pub one_written_outcome : {answer : Result ℕ Located} {after out out' w w' : List ℕ} {old-length r l r' l' : ℕ} →
     Written answer after old-length r w l out → Written answer after old-length r' w' l' out' → (r ≡ r') × (w ≡ w') × (l ≡ l') × (out ≡ out')
 one_written_outcome a b = (
-  same a.told.its_number b.told.its_number,
-  same a.told.its_location b.told.its_location,
+  same a.told.answered.its_number b.told.answered.its_number,
+  same a.told.answered.its_location b.told.answered.its_location,
   same a.told.its_length b.told.its_length,
   same a.its_output b.its_output,
 )
@@ -99,8 +99,8 @@ pub one_figures_outcome : (images : List ℕ) (old : List ℤ) {old-count old-us
     Figured images old old-count old-used r w count used left → Figured images old old-count old-used r' w' count' used' left' →
     (r ≡ r') × (w ≡ w') × (count ≡ count') × (used ≡ used') × (left ≡ left')
 one_figures_outcome images old a b = (
-  same a.told.its_number b.told.its_number,
-  same a.told.its_location b.told.its_location,
+  same a.told.answered.its_number b.told.answered.its_number,
+  same a.told.answered.its_location b.told.answered.its_location,
   same a.told.its_count b.told.its_count,
   same a.told.its_used b.told.its_used,
   same a.its_figures b.its_figures,
@@ -119,8 +119,8 @@ one_take_outcome a b = (
 pub one_close_outcome : {numbers buffer k k' w w' : List ℕ} {old-length r l r' l' : ℕ} →
     IntakeClosed numbers buffer old-length r w l k → IntakeClosed numbers buffer old-length r' w' l' k' → (r ≡ r') × (w ≡ w') × (l ≡ l') × (k ≡ k')
 one_close_outcome a b = (
-  same a.told.its_number b.told.its_number,
-  same a.told.its_location b.told.its_location,
+  same a.told.answered.its_number b.told.answered.its_number,
+  same a.told.answered.its_location b.told.answered.its_location,
   same a.told.its_length b.told.its_length,
   same a.its_numbers b.its_numbers,
 )

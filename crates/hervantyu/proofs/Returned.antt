@@ -8,19 +8,14 @@ use native.Mathlib.Omega.{arith}
 use Rattle.rules.specs.declared.Figures.{Figures}
 use Rattle.rules.specs.declared.Refusal.{Refusal}
 use Rattle.rules.specs.declared.Located.{Located}
-use Rattle.rules.specs.declared.Start.{Start as StartOf}
-use Rattle.rules.specs.declared.SetAnswer.{SetAnswer}
-use Rattle.rules.specs.declared.SetAnswer.TheVariants as set_case
-use Rattle.rules.specs.declared.CheckAnswer.{CheckAnswer}
-use Rattle.rules.specs.declared.CheckAnswer.TheVariants as check_case
-use Rattle.rules.specs.declared.MakeAnswer.{MakeAnswer}
-use Rattle.rules.specs.declared.MakeAnswer.TheVariants as make_case
-use Rattle.rules.specs.declared.StartAnswer.{StartAnswer}
-use Rattle.rules.specs.declared.StartAnswer.TheVariants as start_case
-use Rattle.rules.specs.Refusals.{refusal, Told, set_tells, check_tells, make_tells, start_tells}
+use Rattle.rules.specs.declared.Start.{Start}
+use Rattle.std.specs.Prelude.{Result, Ok, Err, ⊤}
+use Rattle.rules.specs.Refusals.{refusal, Told, set_tells, answer_tells, start_tells}
+use Rattle.rules.specs.Priority.{slot}
 use Rattle.rules.specs.Located.{located, bare}
 use Rattle.rules.specs.GoingOn.{start_refusal}
 use Rattle.rules.proofs.Cases.{clash}
+use Rattle.hervantyu.specs.Lent.{location_of, AnswerTold, CheckTold}
 
 -- an answer is given or a refusal, and what is returned of it
 pub record Returned (Given : Type 0) (Refuses : Refusal → Type 0) (number place : ℕ) : Type 0 where
@@ -67,66 +62,70 @@ module _ {A : Type 0} (tells-of : A → Told) {a : A} {number place : ℕ} (its_
   told_as : {b : A} → a ≡ b → (number ≡ (tells-of b).number) × (place ≡ (tells-of b).place)
   told_as e = (its_number ∙ ap (λ (x : A). (tells-of x).number) e, its_place ∙ ap (λ (x : A). (tells-of x).place) e)
 
--- each kind of answer is returned so, where no refusal has number 0, and that of an image is located in it
-pub set_returned : (a : SetAnswer) {number place : ℕ} → number ≡ (set_tells a).number → place ≡ (set_tells a).place →
-    ((q : Refusal) → a ≡ set_case.Refused q → 1 ≤ q.number) →
-    Returned ((f : Figures) × (a ≡ set_case.Good f)) (λ q. a ≡ set_case.Refused q) number place
+-- that of judging a set is returned so, where no refusal has number 0
+pub set_returned : (a : Result Figures Refusal) {number place : ℕ} → number ≡ (set_tells a).number → place ≡ (set_tells a).place →
+    ((q : Refusal) → a ≡ Err q → 1 ≤ q.number) →
+    Returned ((f : Figures) × (a ≡ Ok f)) (λ q. a ≡ Err q) number place
 set_returned a n p numbered = record {
   either = cases a;
   given = λ g. told_as set_tells n p g.1;
   refused = λ q e. is_refusal q (numbered q e) (told_as set_tells n p e);
 }
   where
-    cases : (b : SetAnswer) → ((f : Figures) × (b ≡ set_case.Good f)) ⊎ ((q : Refusal) × (b ≡ set_case.Refused q))
-    cases (set_case.Good f) = inl (f, refl)
-    cases (set_case.Refused q) = inr (q, refl)
+    cases : (b : Result Figures Refusal) → ((f : Figures) × (b ≡ Ok f)) ⊎ ((q : Refusal) × (b ≡ Err q))
+    cases (Ok f) = inl (f, refl)
+    cases (Err q) = inr (q, refl)
 
 -- a refusal that has a number, and is located in an image
 abbrev pub NumberedIn : List ℕ → Located → Type 0
 NumberedIn bytes q = (1 ≤ q.number) × (q ≡ located bytes (bare q))
 
-pub check_returned : (bytes : List ℕ) (a : CheckAnswer) {number place : ℕ} → number ≡ (check_tells a).number → place ≡ (check_tells a).place →
-    ((q : Located) → a ≡ check_case.Refused q → NumberedIn bytes q) →
-    Returned (a ≡ check_case.Accepted) (λ q. a ≡ check_case.Refused (located bytes q)) number place
-check_returned bytes a n p numbered = record {
-  either = cases a refl;
-  given = told_as check_tells n p;
-  refused = λ q e. is_refusal q (numbered (located bytes q) e).0 (told_as check_tells n p e);
-}
-  where
-    cases : (b : CheckAnswer) → a ≡ b → (a ≡ check_case.Accepted) ⊎ ((q : Refusal) × (a ≡ check_case.Refused (located bytes q)))
-    cases check_case.Accepted e = inl e
-    cases (check_case.Refused q) e = inr (bare q, e ∙ ap check_case.Refused (numbered q e).1)
+-- what is told of an operation on an image
+module _ {A : Type 0} {values : A → List ℕ} {answer : Result A Located} {number : ℕ} {location : List ℕ} (told : AnswerTold values answer number location) where
+  -- of an answer that is equal
+  pub answer_told : {other : Result A Located} → answer ≡ other → AnswerTold values other number location
+  answer_told e = record {
+    its_number = told.its_number ∙ ap (λ (x : Result A Located). (answer_tells values x).number) e;
+    its_location = told.its_location ∙ ap (λ (x : Result A Located). location_of (answer_tells values x)) e;
+  }
 
-pub make_returned : (bytes : List ℕ) (a : MakeAnswer) {number place : ℕ} → number ≡ (make_tells a).number → place ≡ (make_tells a).place →
-    ((q : Located) → a ≡ make_case.Refused q → NumberedIn bytes q) →
-    Returned ((n : ℕ) × (a ≡ make_case.Made n)) (λ q. a ≡ make_case.Refused (located bytes q)) number place
-make_returned bytes a n p numbered = record {
-  either = cases a refl;
-  given = λ g. told_as make_tells n p g.1;
-  refused = λ q e. is_refusal q (numbered (located bytes q) e).0 (told_as make_tells n p e);
-}
-  where
-    cases : (b : MakeAnswer) → a ≡ b → ((n : ℕ) × (a ≡ make_case.Made n)) ⊎ ((q : Refusal) × (a ≡ make_case.Refused (located bytes q)))
-    cases (make_case.Made n) e = inl (n, e)
-    cases (make_case.Refused q) e = inr (bare q, e ∙ ap make_case.Refused (numbered q e).1)
+  -- is returned so, where each refusal has a number and is located in the image
+  pub answer_returned : (bytes : List ℕ) → ((q : Located) → answer ≡ Err q → NumberedIn bytes q) →
+      Returned ((a : A) × (answer ≡ Ok a)) (λ q. answer ≡ Err (located bytes q)) number (slot location 0)
+  answer_returned bytes numbered = record {
+    either = cases answer refl;
+    given = λ g. let t = answer_told g.1 in (t.its_number, ap (λ (x : List ℕ). slot x 0) t.its_location);
+    refused = λ q e.
+        let t = answer_told e in is_refusal q (numbered (located bytes q) e).0 (t.its_number, ap (λ (x : List ℕ). slot x 0) t.its_location);
+  }
+    where
+      cases : (b : Result A Located) → answer ≡ b → ((a : A) × (answer ≡ Ok a)) ⊎ ((q : Refusal) × (answer ≡ Err (located bytes q)))
+      cases (Ok a) e = inl (a, e)
+      cases (Err q) e = inr (bare q, e ∙ ap Err (numbered q e).1)
+
+-- plain checking has one answer without a refusal
+pub check_returned : (bytes : List ℕ) {answer : Result ⊤ Located} {number : ℕ} {location : List ℕ} → CheckTold answer number location →
+    ((q : Located) → answer ≡ Err q → NumberedIn bytes q) → Returned (answer ≡ Ok tt) (λ q. answer ≡ Err (located bytes q)) number (slot location 0)
+check_returned bytes {answer} told numbered =
+    let r : Returned ((u : ⊤) × (answer ≡ Ok u)) (λ q. answer ≡ Err (located bytes q)) _ _ = answer_returned told bytes numbered in
+    record { either = elim r.either [ inl g ↦ inl g.1 | inr w ↦ inr w ]; given = λ e. r.given (tt, e); refused = r.refused }
 
 -- the dispatcher's, by the refusal in it
-pub start_returned : (a : StartAnswer) {number place : ℕ} → number ≡ (start_tells a).number → place ≡ (start_tells a).place →
+pub start_returned : (a : Result Start Located) {number place : ℕ} → number ≡ (start_tells a).number → place ≡ (start_tells a).place →
     ((q : Refusal) → start_refusal a ≡ some q → 1 ≤ q.number) →
-    Returned ((s : StartOf) × (a ≡ start_case.Start s)) (λ q. start_refusal a ≡ some q) number place
+    Returned ((s : Start) × (a ≡ Ok s)) (λ q. start_refusal a ≡ some q) number place
 start_returned a {number} {place} n p numbered = record {
   either = cases a;
   given = λ g. told_as start_tells n p g.1;
   refused = λ q e. is_refusal q (numbered q e) (by_answer a n p q e);
 }
   where
-    cases : (b : StartAnswer) → ((s : StartOf) × (b ≡ start_case.Start s)) ⊎ ((q : Refusal) × (start_refusal b ≡ some q))
-    cases (start_case.Start s) = inl (s, refl)
-    cases (start_case.Refused q) = inr (bare q, refl)
+    cases : (b : Result Start Located) → ((s : Start) × (b ≡ Ok s)) ⊎ ((q : Refusal) × (start_refusal b ≡ some q))
+    cases (Ok s) = inl (s, refl)
+    cases (Err q) = inr (bare q, refl)
 
-    by_answer : (b : StartAnswer) → number ≡ (start_tells b).number → place ≡ (start_tells b).place → (q : Refusal) → start_refusal b ≡ some q →
+    by_answer : (b : Result Start Located) → number ≡ (start_tells b).number → place ≡ (start_tells b).place → (q : Refusal) → start_refusal b ≡ some q →
         (number ≡ q.number) × (place ≡ q.place)
-    by_answer (start_case.Start s) n p q e = clash (cc)
-    by_answer (start_case.Refused w) n p q e =
+    by_answer (Ok s) n p q e = clash (cc)
+    by_answer (Err w) n p q e =
         let same : bare w ≡ q = cc in (n ∙ ap (λ (x : Refusal). x.number) same, p ∙ ap (λ (x : Refusal). x.place) same)

@@ -7,11 +7,11 @@ use native.Mathlib.Omega.{arith}
 use lib.ListN.{length}
 use Rattle.fields.specs.Number.{Bytes}
 use Rattle.rules.specs.declared.Entry.{Entry}
-use Rattle.rules.specs.declared.Start.{Start as StartOf}
-use Rattle.rules.specs.declared.StartAnswer.{StartAnswer}
-use Rattle.rules.specs.declared.StartAnswer.TheVariants.{Start}
+use Rattle.rules.specs.declared.Start.{Start}
 use Rattle.rules.specs.declared.Dispatcher.{Dispatcher as State}
 use Rattle.rules.specs.declared.Turn.{Turn}
+use Rattle.std.specs.Prelude.{Result, Ok}
+use Rattle.rules.specs.declared.Located.{Located}
 use Rattle.rules.specs.Refusals.{refusal, of_no_image, start_tells}
 use Rattle.rules.specs.Tasks.{Set, hyperperiod}
 use Rattle.rules.specs.Priority.{slot}
@@ -28,7 +28,7 @@ use Rattle.hervantyu.specs.Lent.{start_or, TurnTold, Begun, GoneOn}
 use Rattle.hervantyu.specs.Runs.{Honest, Log, begun, went_on, too_early}
 
 -- a start's four numbers
-abbrev four : StartOf → List ℕ
+abbrev four : Start → List ℕ
 four s = s.task ∷ s.job ∷ s.cycle ∷ s.time ∷ []
 
 -- a turn whose state has all its slots can be told
@@ -40,9 +40,9 @@ told_of turn old-start shaped =
 module _ (image : List ℕ) (ts : Set) where
   -- the log of the rule book beside a log of calls: its last start is in the start, and its state is what the state's numbers are
   pub record Beside (k : ℕ) (start state : List ℕ) : Type 0 where
-    pub s : StartOf
+    pub s : Start
     pub d : State
-    pub log : book_calls.Log image ts k (Start s) d
+    pub log : book_calls.Log image ts k (Ok s) d
     pub its_start : start ≡ four s
     pub its_numbers : state ≡ numbers d
     pub its_state : state_from state ≡ d
@@ -77,14 +77,14 @@ module _ (image : List ℕ) (are-bytes : Bytes image) (ts : Set) (τ : List Entr
   told_next : {k number : ℕ} {old-start start state : List ℕ} {turn : Turn} → book_calls.Log image ts k turn.answer turn.state → k < all_starts τ →
       TurnTold turn old-start number start state → (number ≡ 0) × Beside image ts k start state
   told_next {k = k} {old-start = old-start} {turn = turn} log lt t =
-      let s : StartOf = start_of (hyperperiod ts) τ (k / length τ) (k % length τ) in
-      let e : turn.answer ≡ Start s = demand3.serves image are-bytes ts τ (rebuilds accepted) log lt in (
-        t.told.its_number ∙ ap (λ (a : StartAnswer). (start_tells a).number) e,
+      let s : Start = start_of (hyperperiod ts) τ (k / length τ) (k % length τ) in
+      let e : turn.answer ≡ Ok s = demand3.serves image are-bytes ts τ (rebuilds accepted) log lt in (
+        t.told.its_number ∙ ap (λ (a : Result Start Located). (start_tells a).number) e,
         record {
           s = s;
           d = turn.state;
           log = rw e at log;
-          its_start = t.told.its_start ∙ ap (λ (a : StartAnswer). start_or a old-start) e;
+          its_start = t.told.its_start ∙ ap (λ (a : Result Start Located). start_or a old-start) e;
           its_numbers = t.its_numbers;
           its_state = t.its_state;
         },

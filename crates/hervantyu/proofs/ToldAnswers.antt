@@ -1,19 +1,17 @@
 -- What an answer tells, whatever it is of: the number, the place, and what each lent number holds afterwards. Assumes nothing.
-use mathlib.Core.Path.{◌≡◌, refl, sym, ap, subst}
+use mathlib.Core.Path.{◌≡◌, refl, sym, ap}
 use mathlib.Core.List.{List}
 use Prim.Native.Nat.{ℕ, zero, suc, ◌≤◌}
 use native.Mathlib.Omega.{arith}
 use Rattle.rules.specs.declared.Located.{Located}
-use Rattle.rules.specs.declared.StartAnswer.{StartAnswer}
-use Rattle.rules.specs.declared.CheckAnswer.{CheckAnswer}
-use Rattle.rules.specs.declared.MakeAnswer.{MakeAnswer}
-use Rattle.rules.specs.declared.AxisAnswer.{AxisAnswer}
 use Rattle.rules.specs.declared.Turn.{Turn}
+use Rattle.std.specs.Prelude.{Result}
+use Rattle.rules.specs.declared.Start.{Start}
 use Rattle.rules.specs.Refusals.{Told, tells, tells_refusal}
 use Rattle.rules.specs.Priority.{slot}
 use Rattle.rules.proofs.Cases.{clash}
 use Rattle.dispatcher.specs.Stored.{TurnStored}
-use Rattle.hervantyu.specs.Lent.{value_if, value_or, CheckTold, MakeTold, StartTold, TurnTold, AxisTold}
+use Rattle.hervantyu.specs.Lent.{value_if, value_or, StartTold, TurnTold}
 
 -- an answer with values: number and place are 0, and a lent number holds its value
 module _ (t : Told) (values : List ℕ) (e : t ≡ tells values) where
@@ -42,24 +40,7 @@ module _ (t : Told) (r : Located) (e : t ≡ tells_refusal r) where
   pub value_kept : 1 ≤ r.number → (i old : ℕ) → old ≡ value_or t i old
   value_kept h i old = kept_by t.number t i old (omega (arith, its_number))
 
--- what is told of an answer is told of one that is equal to it
-pub check_told : {a b : CheckAnswer} {number : ℕ} {location : List ℕ} → a ≡ b → CheckTold a number location → CheckTold b number location
-check_told {number = number} {location = location} e t = subst (λ (a : CheckAnswer). CheckTold a number location) e t
-
-pub make_told : {a b : MakeAnswer} {old number length : ℕ} {location : List ℕ} → a ≡ b → MakeTold a old number location length →
-    MakeTold b old number location length
-make_told {old = old} {number = number} {length = length} {location = location} e t = subst (λ (a : MakeAnswer). MakeTold a old number location length) e t
-
-pub axis_told : {a b : AxisAnswer} {old-count old-used number count used : ℕ} {location : List ℕ} → a ≡ b →
-    AxisTold a old-count old-used number location count used → AxisTold b old-count old-used number location count used
-axis_told {old-count = c} {old-used = u} {number = number} {count = count} {used = used} {location = location} e t =
-    subst (λ (a : AxisAnswer). AxisTold a c u number location count used) e t
-
-start_told : {a b : StartAnswer} {old start : List ℕ} {number : ℕ} → a ≡ b → StartTold a old number start → StartTold b old number start
-start_told {old = old} {start = start} {number = number} e t = subst (λ (a : StartAnswer). StartTold a old number start) e t
-
 -- a turn that is stored in a state's numbers, and told of its answer
-pub turn_told : {turn : Turn} {answer : StartAnswer} {old start state : List ℕ} {number : ℕ} → TurnStored turn answer state →
+pub turn_told : {turn : Turn} {answer : Result Start Located} {old start state : List ℕ} {number : ℕ} → TurnStored turn answer state →
     StartTold answer old number start → TurnTold turn old number start state
-turn_told stored told =
-    record { told = start_told stored.its_answer told; its_numbers = stored.its_numbers; its_state = stored.its_state }
+turn_told stored told = record { told = rw stored.its_answer at told; its_numbers = stored.its_numbers; its_state = stored.its_state }

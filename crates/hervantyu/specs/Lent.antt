@@ -1,15 +1,11 @@
 -- What the C face is lent and what it leaves there, in the rule book's terms. Assumes nothing.
-use Rattle.std.specs.Prelude.{◌≡◌, List, [], ◌∷◌, ℕ, zero, suc, ◌+◌, ◌≤◌, length, ℤ}
+use Rattle.std.specs.Prelude.{◌≡◌, List, [], ◌∷◌, ℕ, zero, suc, ◌+◌, ◌≤◌, length, ℤ, Result, Ok, Err, ⊤}
 use Rattle.rules.specs.declared.Turn.{Turn}
-use Rattle.rules.specs.declared.StartAnswer.{StartAnswer}
-use Rattle.rules.specs.declared.StartAnswer.TheVariants as start_case
-use Rattle.rules.specs.declared.CheckAnswer.{CheckAnswer}
-use Rattle.rules.specs.declared.MakeAnswer.{MakeAnswer}
-use Rattle.rules.specs.declared.MakeAnswer.TheVariants.{Made, Refused}
-use Rattle.rules.specs.declared.AxisAnswer.{AxisAnswer}
-use Rattle.rules.specs.declared.AxisAnswer.TheVariants as axis_case
 use Rattle.rules.specs.declared.Intake.TheVariants.{Shut}
-use Rattle.rules.specs.Refusals.{Told, Judged, set_tells, check_tells, make_tells, axis_tells, take_tells, start_tells}
+use Rattle.rules.specs.declared.Located.{Located}
+use Rattle.rules.specs.declared.Axis.{Axis}
+use Rattle.rules.specs.declared.Start.{Start}
+use Rattle.rules.specs.Refusals.{Told, Judged, set_tells, answer_tells, take_tells, start_tells}
 use Rattle.rules.specs.Priority.{slot}
 use Rattle.rules.specs.Tasks.{judge_set}
 use Rattle.rules.specs.Operations.{check_timetable, check_tables, output_after, derive, derive_output, rebuild, rebuild_output}
@@ -37,10 +33,19 @@ pub record SetJudged (n : ℕ) (numbers : List ℕ) (old-hyperperiod old-jobs nu
 abbrev pub location_of : Told → List ℕ
 location_of t = t.place ∷ t.offset ∷ []
 
--- what plain checking returns and leaves in the location
-pub record CheckTold (answer : CheckAnswer) (number : ℕ) (location : List ℕ) : Type 0 where
-  pub its_number : number ≡ (check_tells answer).number
-  pub its_location : location ≡ location_of (check_tells answer)
+-- what an operation on an image returns and leaves in the location, by what it answers
+pub record AnswerTold {A : Type 0} (values : A → List ℕ) (answer : Result A Located) (number : ℕ) (location : List ℕ) : Type 0 where
+  pub its_number : number ≡ (answer_tells values answer).number
+  pub its_location : location ≡ location_of (answer_tells values answer)
+
+-- a lent value afterwards: one of the answer's, or what it held where the answer is a refusal
+abbrev pub given_or : {A B : Type 0} → (A → B) → Result A Located → B → B
+given_or value (Ok a) old = value a
+given_or value (Err r) old = old
+
+-- plain checking returns a number and leaves a location alone
+abbrev pub CheckTold : Result ⊤ Located → ℕ → List ℕ → Type 0
+CheckTold = AnswerTold (λ _. [])
 
 abbrev pub TimetableChecked : List ℕ → ℕ → List ℕ → Type 0
 TimetableChecked image = CheckTold (check_timetable image)
@@ -48,19 +53,16 @@ TimetableChecked image = CheckTold (check_timetable image)
 abbrev pub TablesChecked : List ℕ → ℕ → List ℕ → Type 0
 TablesChecked image = CheckTold (check_tables image)
 
--- the length afterwards: the result's, or what it held where the answer is a refusal
-abbrev pub length_or : MakeAnswer → ℕ → ℕ
-length_or (Made length) old = length
-length_or (Refused r) old = old
-
 -- what deriving or rebuilding returns and leaves in the lent numbers
-pub record MakeTold (answer : MakeAnswer) (old-length number : ℕ) (location : List ℕ) (length : ℕ) : Type 0 where
-  pub its_number : number ≡ (make_tells answer).number
-  pub its_location : location ≡ location_of (make_tells answer)
+abbrev pub length_or : Result ℕ Located → ℕ → ℕ
+length_or = given_or (λ length. length)
+
+pub record MakeTold (answer : Result ℕ Located) (old-length number : ℕ) (location : List ℕ) (length : ℕ) : Type 0 where
+  pub answered : AnswerTold (λ length. length ∷ []) answer number location
   pub its_length : length ≡ length_or answer old-length
 
 -- and in every byte of the output
-pub record Written (answer : MakeAnswer) (after : List ℕ) (old-length number : ℕ) (location : List ℕ) (length : ℕ) (output : List ℕ) : Type 0 where
+pub record Written (answer : Result ℕ Located) (after : List ℕ) (old-length number : ℕ) (location : List ℕ) (length : ℕ) (output : List ℕ) : Type 0 where
   pub told : MakeTold answer old-length number location length
   pub its_output : output ≡ after
 
@@ -70,21 +72,11 @@ Derived image old-output = Written (derive image old-output) (derive_output imag
 abbrev pub Rebuilt : List ℕ → List ℕ → ℕ → ℕ → List ℕ → ℕ → List ℕ → Type 0
 Rebuilt image old-output = Written (rebuild image old-output) (rebuild_output image old-output)
 
--- the count of figures afterwards, and the bytes that their image has: the answer's, or what they held where it is a refusal
-abbrev pub count_or : AxisAnswer → ℕ → ℕ
-count_or (axis_case.Measured a) old = a.figures
-count_or (axis_case.Refused r) old = old
-
-abbrev pub used_or : AxisAnswer → ℕ → ℕ
-used_or (axis_case.Measured a) old = a.used
-used_or (axis_case.Refused r) old = old
-
--- what measuring returns and leaves in the lent numbers
-pub record AxisTold (answer : AxisAnswer) (old-count old-used number : ℕ) (location : List ℕ) (count used : ℕ) : Type 0 where
-  pub its_number : number ≡ (axis_tells answer).number
-  pub its_location : location ≡ location_of (axis_tells answer)
-  pub its_count : count ≡ count_or answer old-count
-  pub its_used : used ≡ used_or answer old-used
+-- what measuring returns and leaves in the lent numbers: the count of figures, and how many bytes their image has
+pub record AxisTold (answer : Result Axis Located) (old-count old-used number : ℕ) (location : List ℕ) (count used : ℕ) : Type 0 where
+  pub answered : AnswerTold (λ (a : Axis). a.figures ∷ a.used ∷ []) answer number location
+  pub its_count : count ≡ given_or (λ (a : Axis). a.figures) answer old-count
+  pub its_used : used ≡ given_or (λ (a : Axis). a.used) answer old-used
 
 -- and `hv_figures` in every slot of the figures
 pub record Figured (images : List ℕ) (old : List ℤ) (old-count old-used number : ℕ) (location : List ℕ) (count used : ℕ) (figures : List ℤ) : Type 0 where
@@ -123,13 +115,12 @@ pub record IntakeRebuilt (old-numbers buffer old-output : List ℕ) (old-length 
   pub written : Written (rebuild_held (held (intake_from old-numbers) buffer) old-output) (rebuild_held_output (held (intake_from old-numbers) buffer) old-output) old-length number location length output
   pub its_numbers : numbers ≡ intake_numbers Shut
 
--- the start afterwards: task, job, cycle and absolute time, or what it held where the answer is a refusal
-abbrev pub start_or : StartAnswer → List ℕ → List ℕ
-start_or (start_case.Start s) old = s.task ∷ s.job ∷ s.cycle ∷ s.time ∷ []
-start_or (start_case.Refused r) old = old
+-- the start afterwards: task, job, cycle and absolute time, or what it held
+abbrev pub start_or : Result Start Located → List ℕ → List ℕ
+start_or = given_or (λ (s : Start). s.task ∷ s.job ∷ s.cycle ∷ s.time ∷ [])
 
 -- what the dispatcher returns and leaves in the start
-pub record StartTold (answer : StartAnswer) (old-start : List ℕ) (number : ℕ) (start : List ℕ) : Type 0 where
+pub record StartTold (answer : Result Start Located) (old-start : List ℕ) (number : ℕ) (start : List ℕ) : Type 0 where
   pub its_number : number ≡ (start_tells answer).number
   pub its_start : start ≡ start_or answer old-start
 

@@ -3,18 +3,16 @@
 // state and the intake's.
 #![tactic(auto)]
 
-ghost use Rattle.std.specs.Prelude.{◌≡◌};
-ghost use Rattle.rules.specs.Refusals.{tells_refusal, start_tells};
+ghost use Rattle.std.specs.Prelude.{◌≡◌, List, ℕ};
+ghost use Rattle.rules.specs.Refusals.{tells_refusal, answer_tells};
 ghost use Rattle.rules.specs.declared.Intake.TheVariants as book_intake;
 ghost use Rattle.rules.specs.Intake.{intake_from, intake_numbers};
-ghost use Rattle.hervantyu.specs.Lent.{location_of, SetJudged, CheckTold, TimetableChecked, TablesChecked, MakeTold, Derived, Rebuilt};
+ghost use Rattle.hervantyu.specs.Lent.{location_of, SetJudged, AnswerTold, TimetableChecked, TablesChecked, MakeTold, Derived, Rebuilt};
 ghost use Rattle.hervantyu.specs.Lent.{AxisTold, Figured};
 ghost use Rattle.hervantyu.specs.Lent.{IntakeBegun, FragmentTaken, IntakeClosed, IntakeRebuilt, StartTold, Begun, GoneOn};
 
 use numbers::NUMBERS;
-use rules::{
-    AxisAnswer, CheckAnswer, Intake, Located, MakeAnswer, SetAnswer, StartAnswer, TOO_LONG,
-};
+use rules::{Axis, Intake, Located, Start, TOO_LONG};
 
 #[unsafe(no_mangle)]
 pub extern "C" fn hv_judge_set(
@@ -27,13 +25,13 @@ pub extern "C" fn hv_judge_set(
     ensures { SetJudged n tasks.now hyperperiod.old jobs.old result place.new hyperperiod.new jobs.new }
 {
     match sets::judge_numbers(n, tasks, 0) {
-        SetAnswer::Good(f) => {
+        Ok(f) => {
             *place = 0;
             *hyperperiod = f.hyperperiod;
             *jobs = f.jobs;
             0
         }
-        SetAnswer::Refused(r) => {
+        Err(r) => {
             *place = r.place as u64;
             r.number
         }
@@ -47,51 +45,57 @@ fn located(r: Located) -> [u64; 2]
     [r.place as u64, r.offset as u64]
 }
 
-// What plain checking answered, told through the location.
-fn told_check(answer: CheckAnswer, location: &mut [u64; 2]) -> u32
-    ensures { CheckTold answer result location.new }
+// The place and the byte offset of what an operation on an image refused, 0 and 0 where it refused nothing.
+fn location_in<T: Copy>(answer: Result<T, Located>) -> [u64; 2]
+    ensures { (values : T → List ℕ) → result ≡ location_of (answer_tells values answer) }
 {
     match answer {
-        CheckAnswer::Accepted => {
-            *location = [0u64; 2];
-            0
-        }
-        CheckAnswer::Refused(r) => {
-            *location = located(r);
-            r.number
-        }
+        Ok(_) => [0u64; 2],
+        Err(r) => located(r),
     }
+}
+
+// The number of what it refused, 0 where it refused nothing.
+fn number_in<T: Copy>(answer: Result<T, Located>) -> u32
+    ensures { (values : T → List ℕ) → result ≡ (answer_tells values answer).number }
+{
+    match answer {
+        Ok(_) => 0,
+        Err(r) => r.number,
+    }
+}
+
+// What it answered, told through the location.
+fn told<T: Copy>(answer: Result<T, Located>, location: &mut [u64; 2]) -> u32
+    ensures { (values : T → List ℕ) → AnswerTold values answer result location.new }
+{
+    *location = location_in(answer);
+    number_in(answer)
 }
 
 #[unsafe(no_mangle)]
 pub extern "C" fn hv_check_timetable(image: &[u8], location: &mut [u64; 2]) -> u32
     ensures { TimetableChecked image.now result location.new }
 {
-    told_check(timetables::check(image), location)
+    told(timetables::check(image), location)
 }
 
 #[unsafe(no_mangle)]
 pub extern "C" fn hv_check_tables(image: &[u8], location: &mut [u64; 2]) -> u32
     ensures { TablesChecked image.now result location.new }
 {
-    told_check(tables::check(image), location)
+    told(tables::check(image), location)
 }
 
 // What deriving or rebuilding answered, told through the location and the length.
-fn told_make(answer: MakeAnswer, location: &mut [u64; 2], length: &mut u64) -> u32
+fn told_make(answer: Result<usize, Located>, location: &mut [u64; 2], length: &mut u64) -> u32
     ensures { MakeTold answer length.old result location.new length.new }
 {
-    match answer {
-        MakeAnswer::Made(n) => {
-            *location = [0u64; 2];
-            *length = n as u64;
-            0
-        }
-        MakeAnswer::Refused(r) => {
-            *location = located(r);
-            r.number
-        }
+    let number = told(answer, location);
+    if let Ok(n) = answer {
+        *length = n as u64;
     }
+    number
 }
 
 #[unsafe(no_mangle)]
@@ -193,21 +197,20 @@ pub extern "C" fn hv_intake_rebuild(
 }
 
 // What measuring answered, told through the location, the count of figures and the bytes used.
-fn told_axis(answer: AxisAnswer, location: &mut [u64; 2], count: &mut u64, used: &mut u64) -> u32
+fn told_axis(
+    answer: Result<Axis, Located>,
+    location: &mut [u64; 2],
+    count: &mut u64,
+    used: &mut u64,
+) -> u32
     ensures { AxisTold answer count.old used.old result location.new count.new used.new }
 {
-    match answer {
-        AxisAnswer::Measured(a) => {
-            *location = [0u64; 2];
-            *count = a.figures as u64;
-            *used = a.used as u64;
-            0
-        }
-        AxisAnswer::Refused(r) => {
-            *location = located(r);
-            r.number
-        }
+    let number = told(answer, location);
+    if let Ok(a) = answer {
+        *count = a.figures as u64;
+        *used = a.used as u64;
     }
+    number
 }
 
 #[unsafe(no_mangle)]
@@ -224,26 +227,18 @@ pub extern "C" fn hv_figures(
 }
 
 // What beginning or going on answered, told through the start.
-fn told_start(answer: StartAnswer, start: &mut [u64; 4]) -> u32
+fn told_start(answer: Result<Start, Located>, start: &mut [u64; 4]) -> u32
     ensures { StartTold answer start.old result start.new }
 {
-    match answer {
-        StartAnswer::Start(s) => {
-            *start = [s.task as u64, s.job as u64, s.cycle as u64, s.time];
-            0
-        }
-        StartAnswer::Refused(r) => r.number,
+    if let Ok(s) = answer {
+        *start = [
+            u64::from(s.task),
+            u64::from(s.job),
+            u64::from(s.cycle),
+            s.time,
+        ];
     }
-}
-
-// The place and the byte offset of what beginning answered.
-fn location_in(answer: StartAnswer) -> [u64; 2]
-    ensures { result ≡ location_of (start_tells answer) }
-{
-    match answer {
-        StartAnswer::Start(_) => [0u64; 2],
-        StartAnswer::Refused(r) => located(r),
-    }
+    number_in(answer)
 }
 
 #[unsafe(no_mangle)]
@@ -255,9 +250,9 @@ pub extern "C" fn hv_begin(
 ) -> u32
     ensures { Begun image.now start.old result location.new start.new d.new }
 {
-    let answer = dispatcher::begin_numbers(image, d);
-    *location = location_in(answer);
-    told_start(answer, start)
+    let begun = dispatcher::begin_numbers(image, d);
+    *location = location_in(begun);
+    told_start(begun, start)
 }
 
 #[unsafe(no_mangle)]
@@ -269,6 +264,5 @@ pub extern "C" fn hv_go_on(
 ) -> u32
     ensures { GoneOn image.now d.old end start.old result start.new d.new }
 {
-    let answer = dispatcher::go_on_numbers(image, d, end);
-    told_start(answer, start)
+    told_start(dispatcher::go_on_numbers(image, d, end), start)
 }

@@ -7,12 +7,11 @@ use native.Mathlib.Omega.{arith}
 use lib.ListN.{length, take, drop, length-drop}
 use lib.Seq.{take-nil, drop-nil, drop-drop, length-take-le, take-take}
 use Rattle.fields.specs.Number.{number, field_at}
-use Rattle.fields.specs.Body.{total, head₀, values_in}
+use Rattle.fields.specs.Body.{total, values_in}
 use Rattle.fields.proofs.Places.{field_at_whole}
-use Rattle.rules.specs.Priority.{slot}
 use Rattle.rules.specs.Marks.{Mark, TS, TK, SL, ID, PV, EN, row, size, body_length, values}
 use Rattle.rules.specs.Image.{to_task, to_entry, to_idle, to_inversion}
-use Rattle.images.specs.Bodies.{part_of, head_of, task_of, entry_of, idle_of, inversion_of, count_of, to_head}
+use Rattle.images.specs.Bodies.{part_of, head_of, task_of, entry_of, idle_of, inversion_of, end_of, to_head, to_end}
 
 -- the fields of these widths, one after the other from a place on
 abbrev fields_at : List ℕ → List ℕ → ℕ → List ℕ
@@ -69,5 +68,5 @@ module _ (bytes : List ℕ) (at : ℕ) where
   pub inversion_body_is : at + size PV ≤ length bytes → inversion_of (body PV) ≡ to_inversion (values PV (drop at bytes))
   inversion_body_is h = ap to_inversion (values_read PV bytes at h)
 
-  pub end_body_is : at + size EN ≤ length bytes → count_of (body EN) ≡ slot (values EN (drop at bytes)) 0
-  end_body_is h = ap head₀ (values_read EN bytes at h)
+  pub end_body_is : at + size EN ≤ length bytes → end_of (body EN) ≡ to_end (values EN (drop at bytes))
+  end_body_is h = ap to_end (values_read EN bytes at h)

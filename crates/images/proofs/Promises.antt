@@ -1,32 +1,31 @@
 -- The contract of finding a mark determines its answer. Assumes nothing.
-use mathlib.Core.Path.{◌≡◌, refl, sym, ◌∙◌, ap}
+use Rattle.std.specs.Prelude.{◌≡◌, Option as CodeOption, Some, None}
+use mathlib.Core.Path.{refl, sym, ◌∙◌, ap}
 use mathlib.Core.Option.{Option, none, some}
-use Prim.Native.Nat.{ℕ, zero, suc, ◌≤◌}
-use native.Mathlib.Omega.{arith}
-use Rattle.rules.specs.Marks.{mark_count, Mark, TS, TK, SL, ID, PV, EN}
-use Rattle.images.specs.Table.{found_at}
+use Rattle.rules.specs.Marks.{Mark, TS, TK, SL, ID, PV, EN}
+use Rattle.images.specs.declared.Mark.{Mark as CodeMark}
+use Rattle.images.specs.declared.Mark.TheVariants as mark_case
+use Rattle.images.specs.Table.{found_mark}
 
--- a mark's place in the table, their number for none
-abbrev place_of : Option Mark → ℕ
-place_of (some TS) = 0
-place_of (some TK) = 1
-place_of (some SL) = 2
-place_of (some ID) = 3
-place_of (some PV) = 4
-place_of (some EN) = 5
-place_of none = mark_count
+-- what is found, as the code has it
+abbrev answer : Option Mark → CodeOption CodeMark
+answer none = None
+answer (some TS) = Some mark_case.TS
+answer (some TK) = Some mark_case.TK
+answer (some SL) = Some mark_case.SL
+answer (some ID) = Some mark_case.ID
+answer (some PV) = Some mark_case.PV
+answer (some EN) = Some mark_case.EN
 
--- what is found at a place in the table, or behind it, has that place
-found_back : (r : ℕ) → r ≤ mark_count → place_of (found_at r) ≡ r
-found_back zero l = refl
-found_back (suc zero) l = refl
-found_back (suc (suc zero)) l = refl
-found_back (suc (suc (suc zero))) l = refl
-found_back (suc (suc (suc (suc zero)))) l = refl
-found_back (suc (suc (suc (suc (suc zero))))) l = refl
-found_back (suc (suc (suc (suc (suc (suc zero)))))) l = refl
-found_back (suc (suc (suc (suc (suc (suc (suc r))))))) l = absurd (omega arith)
+answer_back : (r : CodeOption CodeMark) → answer (found_mark r) ≡ r
+answer_back None = refl
+answer_back (Some mark_case.TS) = refl
+answer_back (Some mark_case.TK) = refl
+answer_back (Some mark_case.SL) = refl
+answer_back (Some mark_case.ID) = refl
+answer_back (Some mark_case.PV) = refl
+answer_back (Some mark_case.EN) = refl
 
--- two answers of `mark` that meet its contract are equal
-pub one_mark : (found : Option Mark) (r s : ℕ) → (r ≤ mark_count) × (found_at r ≡ found) → (s ≤ mark_count) × (found_at s ≡ found) → r ≡ s
-one_mark found r s a b = sym (found_back r a.0) ∙ ap place_of (a.1 ∙ sym b.1) ∙ found_back s b.0
+-- two answers of `Mark::find` that meet its contract are equal
+pub one_mark : (found : Option Mark) (r s : CodeOption CodeMark) → found_mark r ≡ found → found_mark s ≡ found → r ≡ s
+one_mark found r s e f = sym (answer_back r) ∙ ap answer (e ∙ sym f) ∙ answer_back s

@@ -1,37 +1,21 @@
--- The code's table of marks is the rule book's, entry by entry, and so is the search in it; and a whole record at a place. Assumes nothing.
+-- The code's table of marks is the rule book's, entry by entry; and a whole record at a place. Assumes nothing.
 use mathlib.Core.Path.{◌≡◌, refl, sym, ◌∙◌, ap}
 use mathlib.Core.Bool.{true, false}
-use mathlib.Core.List.{List, [], ◌∷◌}
-use Prim.Native.Nat.{ℕ, zero, suc, ◌+◌, ◌-◌, ◌*◌, ◌≤◌, ◌<◌}
+use mathlib.Core.List.{List}
+use Prim.Native.Nat.{ℕ, ◌+◌, ◌-◌, ◌*◌, ◌≤◌, ◌<◌}
 use native.Mathlib.Nat.{add-zero}
-use native.Mathlib.Numerals.{add-one}
 use native.Mathlib.Omega.{arith}
 use borrow.Author.Tests.{eq-eqb, ne_eqb, lt-leb, le-leb, leb-true}
 use lib.Dec.{eqb, leb}
-use lib.ListN.{length, get_or, get_elem?, drop, length-drop}
+use lib.ListN.{length, get_or, drop, length-drop}
 use lib.Seq.{get_or-drop}
 use Rattle.rules.specs.Tasks.{both}
-use Rattle.rules.specs.Marks.{mark_count, Mark, TS, TK, SL, ID, PV, EN, Class, head_class, task_class, option_class, listed_class, inversion_class, end_class, row, marks, size, mark_in}
+use Rattle.rules.specs.Marks.{Mark, TS, TK, SL, ID, PV, EN, Class, head_class, task_class, option_class, listed_class, inversion_class, end_class, row, size}
 use Rattle.rules.proofs.Cases.{by_eq, both_true}
 use Rattle.rules.proofs.Marked.{mark_bytes}
 use Rattle.images.specs.declared.Class.{Class as CodeClass}
 use Rattle.images.specs.declared.Class.TheVariants as class_case
-use Rattle.images.specs.declared.Row.{Row}
-use Rattle.images.specs.Table.{mark_of, code_class, code_row, found_at, stands_at}
-
--- a place that is another has the row of that place's mark
-pub same_row : (k i : ℕ) → k ≡ i → code_row (mark_of i) ≡ code_row (mark_of k)
-same_row k i e = rw e
-
--- the last place, and every place behind the table, has EN's
-pub last_row : (k : ℕ) → 5 ≤ k → code_row EN ≡ code_row (mark_of k)
-last_row zero h = absurd (omega arith)
-last_row (suc zero) h = absurd (omega arith)
-last_row (suc (suc zero)) h = absurd (omega arith)
-last_row (suc (suc (suc zero))) h = absurd (omega arith)
-last_row (suc (suc (suc (suc zero)))) h = absurd (omega arith)
-last_row (suc (suc (suc (suc (suc zero))))) h = refl
-last_row (suc (suc (suc (suc (suc (suc k)))))) h = refl
+use Rattle.images.specs.Table.{code_class, pair_of, stands_at}
 
 -- a class is told by the code's
 abbrev class_back : CodeClass → Class
@@ -71,30 +55,6 @@ low_rank ID = omega arith
 low_rank PV = omega arith
 low_rank EN = omega arith
 
--- the search from a place on ends where the mark there has the two bytes
-here : (ms : List Mark) (k a b : ℕ) → k < length ms → (row (get_or ms k EN)).byte₁ ≡ a → (row (get_or ms k EN)).byte₂ ≡ b → mark_in (drop k ms) a b ≡ get_elem? ms k
-here [] k a b h p q = absurd (omega arith)
-here (m ∷ ms) zero a b h p q = rw (eq-eqb a _ (sym p), eq-eqb b _ (sym q), mark_in)
-here (m ∷ ms) (suc k) a b h p q = here ms k a b (omega arith) p q
-
--- and goes on at the next place where it has not
-later : (ms : List Mark) (k a b : ℕ) → k < length ms → ((row (get_or ms k EN)).byte₁ ≡ a → (row (get_or ms k EN)).byte₂ ≡ b → ⊥) →
-    mark_in (drop k ms) a b ≡ mark_in (drop (suc k) ms) a b
-later [] k a b h n = absurd (omega arith)
-later (m ∷ ms) zero a b h n =
-    by_eq a (row m).byte₁
-    (λ e. rw (eq-eqb a _ e, ne_eqb b (row m).byte₂ (λ f. n (sym e) (sym f)), mark_in))
-    (λ d. rw (ne_eqb a (row m).byte₁ d, mark_in))
-later (m ∷ ms) (suc k) a b h n = later ms k a b (omega arith) n
-
--- the search in the code's table, with the row that was read
-module _ (k a b : ℕ) (r : Row) (h : k < mark_count) (read : r ≡ code_row (mark_of k)) where
-  pub mark_here : r.first ≡ a → r.second ≡ b → found_at k ≡ mark_in (drop k marks) a b
-  mark_here p q = sym (here marks k a b h (rw read at p) (rw read at q))
-
-  pub mark_later : (r.first ≡ a → r.second ≡ b → ⊥) → mark_in (drop k marks) a b ≡ mark_in (drop (k + 1) marks) a b
-  mark_later n = rw (add-one k) (later marks k a b h (rw read at n))
-
 -- two bytes as one number are two others exactly where each byte is the other
 pair_told : (a b x y : ℕ) → a < 256 → x < 256 → eqb (a + b * 256) (x + y * 256) ≡ both (eqb a x) (eqb b y)
 pair_told a b x y h k =
@@ -120,12 +80,10 @@ module _ (bytes : List ℕ) (at : ℕ) (m : Mark) where
   stands_cut h = rw (lt-leb (size m) (length rest) (omega (arith, length-drop at bytes)))
 
   -- as many are left: the first two, as one number, decide
-  pub stands_pair : at + size m ≤ length bytes → (r : Row) → r ≡ code_row m → (p q : ℕ) → p ≡ get_or bytes at 0 + get_or bytes (at + 1) 0 * 256 →
-      q ≡ r.first + r.second * 256 → get_or bytes at 0 < 256 → eqb p q ≡ stands_at bytes at m
+  pub stands_pair : at + size m ≤ length bytes → get_or bytes at 0 < 256 → eqb (get_or bytes at 0 + get_or bytes (at + 1) 0 * 256) (pair_of m) ≡ stands_at bytes at m
   unfolding stands_at
-  stands_pair room r read p q is of byte =
-      let row-pair : q ≡ (row m).byte₁ + (row m).byte₂ * 256 = rw read at of in
-      rw (is, row-pair, le-leb (size m) (length rest) (omega (arith, length-drop at bytes)), front, get_or-drop at bytes 1 0)
+  stands_pair room byte =
+      rw (le-leb (size m) (length rest) (omega (arith, length-drop at bytes)), front, get_or-drop at bytes 1 0)
       (pair_told (get_or bytes at 0) (get_or bytes (at + 1) 0) (row m).byte₁ (row m).byte₂ byte (mark_bytes m).0)
 
   -- a whole record ends inside the image

@@ -7,6 +7,7 @@ use Rattle.rules.specs.declared.Idle.{Idle}
 use Rattle.rules.specs.declared.Inversion.{Inversion}
 use Rattle.rules.specs.Priority.{slot}
 use Rattle.images.specs.declared.Head.{Head}
+use Rattle.images.specs.declared.End.{End}
 
 -- so many bytes from a place on
 abbrev pub part_of : List ℕ → ℕ → ℕ → List ℕ
@@ -34,5 +35,12 @@ idle_of body = record { start = field_at 4 body 0; length = field_at 2 body 4 }
 abbrev pub inversion_of : List ℕ → Inversion
 inversion_of body = record { task = field_at 1 body 0; job = field_at 2 body 1; delay = field_at 4 body 3 }
 
-abbrev pub count_of : List ℕ → ℕ
-count_of body = field_at 4 body 0
+abbrev pub end_of : List ℕ → End
+end_of body = record { before = field_at 4 body 0 }
+
+-- EN's value, and what it stands for
+abbrev pub of_end : End → List ℕ
+of_end e = e.before ∷ []
+
+abbrev pub to_end : List ℕ → End
+to_end v = record { before = slot v 0 }

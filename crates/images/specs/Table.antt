@@ -1,20 +1,38 @@
 -- The code's table of marks, in the rule book's terms, and what a whole record at a place is. Assumes nothing.
-use Rattle.std.specs.Prelude.{Bool, List, [], ◌∷◌, ℕ, leb, eqb, length, get_or, drop}
-use Rattle.std.proofs.Math.Option.{Option}
-use Rattle.std.proofs.Math.ListN.{get_elem?}
+use Rattle.std.specs.Prelude.{Bool, List, ℕ, ◌+◌, ◌*◌, Some, None, leb, eqb, length, get_or, drop}
+use Rattle.std.specs.Prelude.{Option as CodeOption}
+use Rattle.std.proofs.Math.Option.{Option, none, some}
 use Rattle.rules.specs.Tasks.{both}
-use Rattle.rules.specs.Priority.{slot}
-use Rattle.rules.specs.Marks.{Mark, EN, Class, head_class, task_class, option_class, listed_class, inversion_class, end_class, row, marks, size, body_length}
+use Rattle.rules.specs.Marks.{Mark, TS, TK, SL, ID, PV, EN, Class, head_class, task_class, option_class, listed_class, inversion_class, end_class, row, size, body_length}
 use Rattle.images.specs.declared.Class.{Class as CodeClass}
 use Rattle.images.specs.declared.Class.TheVariants as class_case
 use Rattle.images.specs.declared.Row.{Row}
+use Rattle.images.specs.declared.Mark.{Mark as CodeMark}
+use Rattle.images.specs.declared.Mark.TheVariants as mark_case
+use Rattle.images.specs.declared.Kind.{Kind}
+use Rattle.images.specs.declared.Kind.TheVariants.{Timetable, Tables}
 
--- the mark at a place of the table
-abbrev pub mark_of : ℕ → Mark
-mark_of k = get_or marks k EN
+-- the rule book's mark for the code's, and for one that is found
+abbrev pub mark_of : CodeMark → Mark
+mark_of mark_case.TS = TS
+mark_of mark_case.TK = TK
+mark_of mark_case.SL = SL
+mark_of mark_case.ID = ID
+mark_of mark_case.PV = PV
+mark_of mark_case.EN = EN
 
-abbrev pub found_at : ℕ → Option Mark
-found_at k = get_elem? marks k
+abbrev pub found_mark : CodeOption CodeMark → Option Mark
+found_mark None = none
+found_mark (Some m) = some (mark_of m)
+
+-- the number of a kind in an image
+abbrev pub kind_number : Kind → ℕ
+kind_number Timetable = 1
+kind_number Tables = 2
+
+-- a mark's two bytes as one number
+abbrev pub pair_of : Mark → ℕ
+pair_of m = (row m).byte₁ + (row m).byte₂ * 256
 
 -- a class and a mark's row as the code has them
 abbrev pub code_class : Class → CodeClass
@@ -29,7 +47,6 @@ abbrev pub code_row : Mark → Row
 code_row m = record {
   first = (row m).byte₁;
   second = (row m).byte₂;
-  widths = slot (row m).widths 0 ∷ slot (row m).widths 1 ∷ slot (row m).widths 2 ∷ slot (row m).widths 3 ∷ [];
   body = body_length m;
   size = size m;
   timetable = (row m).in_kind₁;

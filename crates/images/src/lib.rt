@@ -1,10 +1,14 @@
 // Images: the one table of marks, and the reader of each body.
 #![tactic(auto)]
 
-ghost use Rattle.std.specs.Prelude.{◌≡◌, ◌+◌, ◌*◌, ◌≤◌, ◌<◌, length};
+ghost use Rattle.std.specs.Prelude.{◌≡◌, ℕ, ◌+◌, ◌*◌, ◌≤◌, ◌<◌, eqb, List, length};
+ghost use Rattle.fields.specs.Body.{body as book_body};
 ghost use Rattle.rules.specs.Marks as book_marks;
-ghost use Rattle.images.specs.Table.{mark_of, code_row, found_at, stands_at};
-ghost use Rattle.images.specs.Bodies.{part_of, head_of, task_of, entry_of, idle_of, inversion_of, count_of};
+ghost use Rattle.rules.specs.Image as book;
+ghost use Rattle.images.specs.declared.Mark.{Mark as CodeMark};
+ghost use Rattle.images.specs.declared.Mark.TheVariants as mark_case;
+ghost use Rattle.images.specs.Table.{mark_of, found_mark, kind_number, code_row, pair_of, stands_at};
+ghost use Rattle.images.specs.Bodies.{part_of, head_of, of_head, task_of, entry_of, idle_of, inversion_of, end_of, of_end};
 
 use rules::{Entry, Idle, Inversion, Task};
 
@@ -19,13 +23,12 @@ pub enum Class {
     End,
 }
 
-// A mark's two bytes, the widths of its fields, 0 for none, the length of its body and of the whole record, the kinds of image that have it, its rank, which
-// never falls in an image, its class, and whether its record stands at most once.
+// A mark's two bytes, the length of its body and of the whole record, the kinds of image that have it, its rank, which never falls in an image, its class,
+// and whether its record stands at most once.
 #[derive(Clone, Copy)]
 pub struct Row {
     pub first: u8,
     pub second: u8,
-    pub widths: [usize; 4],
     pub body: usize,
     pub size: usize,
     pub timetable: bool,
@@ -35,27 +38,41 @@ pub struct Row {
     pub once: bool,
 }
 
-// The places of the marks in the table.
-pub const TS: usize = 0;
+// The marks of records: the head, a task, an entry, an idle, an inversion, the end.
+#[derive(Clone, Copy)]
+pub enum Mark {
+    TS,
+    TK,
+    SL,
+    ID,
+    PV,
+    EN,
+}
 
-pub const TK: usize = 1;
+// The kinds of image.
+#[derive(Clone, Copy)]
+pub enum Kind {
+    Timetable,
+    Tables,
+}
 
-pub const SL: usize = 2;
+impl Kind {
+    // A kind's number in an image.
+    pub fn number(self) -> u32
+        ensures { result ≡ kind_number self }
+    {
+        match self {
+            Kind::Timetable => 1,
+            Kind::Tables => 2,
+        }
+    }
+}
 
-pub const ID: usize = 3;
-
-pub const PV: usize = 4;
-
-pub const EN: usize = 5;
-
-// So many there are.
-pub const MARKS: usize = 6;
-
-pub const ROWS: [Row; MARKS] = [
+// The table: a row for each mark, in the order of the marks.
+pub const ROWS: [Row; 6] = [
     Row {
         first: 0x54,
         second: 0x53,
-        widths: [1, 1, 1, 0],
         body: 3,
         size: 5,
         timetable: true,
@@ -67,7 +84,6 @@ pub const ROWS: [Row; MARKS] = [
     Row {
         first: 0x54,
         second: 0x4B,
-        widths: [4, 4, 4, 4],
         body: 16,
         size: 18,
         timetable: true,
@@ -79,7 +95,6 @@ pub const ROWS: [Row; MARKS] = [
     Row {
         first: 0x53,
         second: 0x4C,
-        widths: [1, 4, 0, 0],
         body: 5,
         size: 7,
         timetable: true,
@@ -91,7 +106,6 @@ pub const ROWS: [Row; MARKS] = [
     Row {
         first: 0x49,
         second: 0x44,
-        widths: [4, 2, 0, 0],
         body: 6,
         size: 8,
         timetable: false,
@@ -103,7 +117,6 @@ pub const ROWS: [Row; MARKS] = [
     Row {
         first: 0x50,
         second: 0x56,
-        widths: [1, 2, 4, 0],
         body: 7,
         size: 9,
         timetable: false,
@@ -115,7 +128,6 @@ pub const ROWS: [Row; MARKS] = [
     Row {
         first: 0x45,
         second: 0x4E,
-        widths: [4, 0, 0, 0],
         body: 4,
         size: 6,
         timetable: true,
@@ -127,44 +139,87 @@ pub const ROWS: [Row; MARKS] = [
 ];
 
 // The bytes of a whole record of each mark, mark included.
-pub const HEAD_SIZE: usize = ROWS[TS].size;
+pub const HEAD_SIZE: usize = ROWS[Mark::TS as usize].size;
 
-pub const TASK_SIZE: usize = ROWS[TK].size;
+pub const TASK_SIZE: usize = ROWS[Mark::TK as usize].size;
 
-pub const ENTRY_SIZE: usize = ROWS[SL].size;
+pub const ENTRY_SIZE: usize = ROWS[Mark::SL as usize].size;
 
-pub const IDLE_SIZE: usize = ROWS[ID].size;
+pub const IDLE_SIZE: usize = ROWS[Mark::ID as usize].size;
 
-pub const INVERSION_SIZE: usize = ROWS[PV].size;
+pub const INVERSION_SIZE: usize = ROWS[Mark::PV as usize].size;
 
-pub const END_SIZE: usize = ROWS[EN].size;
+pub const END_SIZE: usize = ROWS[Mark::EN as usize].size;
 
-// The row of a mark, EN's for a place behind the table.
-pub fn row_of(k: usize) -> Row
-    ensures { result ≡ code_row (mark_of k) }
+// Two bytes as one number, so that a mark is told by one comparison.
+fn pair(a: u8, b: u8) -> u32
+    ensures { result ≡ a + b * 256 }
 {
-    match k {
-        0 => ROWS[TS],
-        1 => ROWS[TK],
-        2 => ROWS[SL],
-        3 => ROWS[ID],
-        4 => ROWS[PV],
-        _ => ROWS[EN],
+    u32::from(a) + u32::from(b) * 256
+}
+
+impl Mark {
+    // A mark's row of the table.
+    pub fn row(self) -> Row
+        ensures { result ≡ code_row (mark_of self) }
+    {
+        match self {
+            Mark::TS => ROWS[Mark::TS as usize],
+            Mark::TK => ROWS[Mark::TK as usize],
+            Mark::SL => ROWS[Mark::SL as usize],
+            Mark::ID => ROWS[Mark::ID as usize],
+            Mark::PV => ROWS[Mark::PV as usize],
+            Mark::EN => ROWS[Mark::EN as usize],
+        }
     }
-}
 
-// The length of a mark's body.
-pub fn body_of(k: usize) -> usize
-    ensures { result ≡ book_marks.body_length (mark_of k) }
-{
-    row_of(k).body
-}
+    // The length of a mark's body.
+    pub fn body(self) -> usize
+        ensures { result ≡ book_marks.body_length (mark_of self) }
+    {
+        self.row().body
+    }
 
-// The bytes of a whole record, mark included.
-pub fn size_of(k: usize) -> usize
-    ensures { result ≡ book_marks.size (mark_of k) }
-{
-    row_of(k).size
+    // The bytes of a whole record, mark included.
+    pub fn size(self) -> usize
+        ensures { result ≡ book_marks.size (mark_of self) }
+    {
+        self.row().size
+    }
+
+    // Are two bytes, as one number, this mark?
+    fn is(self, bytes: u32) -> bool
+        ensures { result ≡ eqb bytes (pair_of (mark_of self)) }
+    {
+        let row = self.row();
+        bytes == pair(row.first, row.second)
+    }
+
+    // The mark that two bytes are, if they are one.
+    pub fn find(a: u8, b: u8) -> Option<Mark>
+        ensures { found_mark result ≡ book_marks.mark_in book_marks.marks a b }
+    {
+        let bytes = pair(a, b);
+        if Mark::TS.is(bytes) {
+            return Some(Mark::TS);
+        }
+        if Mark::TK.is(bytes) {
+            return Some(Mark::TK);
+        }
+        if Mark::SL.is(bytes) {
+            return Some(Mark::SL);
+        }
+        if Mark::ID.is(bytes) {
+            return Some(Mark::ID);
+        }
+        if Mark::PV.is(bytes) {
+            return Some(Mark::PV);
+        }
+        if Mark::EN.is(bytes) {
+            return Some(Mark::EN);
+        }
+        None
+    }
 }
 
 // How many records the head of an image of n tasks has: TS and n TK.
@@ -183,49 +238,23 @@ pub fn head_length(n: usize) -> usize
     HEAD_SIZE + n * TASK_SIZE
 }
 
-// The place in the table of the mark that two bytes are, MARKS where they are none.
-pub fn mark(a: u8, b: u8) -> usize
-    ensures row { result ≤ book_marks.mark_count }
-    ensures found { found_at result ≡ book_marks.mark_in book_marks.marks a b }
-{
-    let mut k: usize = 0;
-    while k < MARKS {
-        let r = row_of(k);
-        if r.first == a {
-            if r.second == b {
-                return k;
-            }
-        }
-        k += 1;
-    }
-    MARKS
-}
-
-// Two bytes as one number, so that a mark is told by one comparison.
-fn pair(a: u8, b: u8) -> u32
-    ensures { result ≡ a + b * 256 }
-{
-    (a as u32) + (b as u32) * 256
-}
-
 // Does a record with a mark stand at a place from which on there are bytes enough for one?
-pub fn marked(image: &[u8], at: usize, k: usize) -> bool
-    requires { at + book_marks.size (mark_of k) ≤ length image.now }
-    ensures { result ≡ stands_at image.now at (mark_of k) }
+pub fn marked(image: &[u8], at: usize, mark: Mark) -> bool
+    requires { at + book_marks.size (mark_of mark) ≤ length image.now }
+    ensures { result ≡ stands_at image.now at (mark_of mark) }
 {
-    let row = row_of(k);
-    pair(image[at], image[at + 1]) == pair(row.first, row.second)
+    mark.is(pair(image[at], image[at + 1]))
 }
 
 // Does a whole record with a mark stand at a place?
-pub fn stands(image: &[u8], at: usize, k: usize) -> bool
+pub fn stands(image: &[u8], at: usize, mark: Mark) -> bool
     requires { at ≤ length image.now }
-    ensures { result ≡ stands_at image.now at (mark_of k) }
+    ensures { result ≡ stands_at image.now at (mark_of mark) }
 {
-    if image.len() - at < size_of(k) {
+    if image.len() - at < mark.size() {
         return false;
     }
-    marked(image, at, k)
+    marked(image, at, mark)
 }
 
 // The part of the image that begins at a place and has a length.
@@ -237,7 +266,34 @@ pub fn part(image: &[u8], at: usize, len: usize) -> &[u8]
     &image[at..end]
 }
 
-// TS's body: edition, kind, n.
+// What a record with one mark says.
+pub trait Record: Copy {
+    const MARK: Mark;
+
+    ghost MARK: { CodeMark };
+
+    // The record whose body is given, and the values of a record's fields.
+    ghost of_body: { List ℕ → Self };
+
+    ghost values: { Self → List ℕ };
+
+    fn from_body(body: &[u8]) -> Self
+        ensures { result ≡ of_body body.now };
+
+    fn to_body(self, body: &mut [u8])
+        requires { length body.old ≡ book_marks.body_length (mark_of MARK) }
+        ensures { body.new ≡ book_body (book_marks.row (mark_of MARK)).widths (values self) };
+}
+
+// The record at a byte offset where it stands whole.
+pub fn read<R: Record>(image: &[u8], at: usize) -> R
+    requires { at + book_marks.size (mark_of R.MARK) ≤ length image.now }
+    ensures { result ≡ R.of_body (part_of image.now (at + 2) (book_marks.body_length (mark_of R.MARK))) }
+{
+    R::from_body(part(image, at + 2, R::MARK.body()))
+}
+
+// TS: edition, kind, n.
 #[derive(Clone, Copy)]
 pub struct Head {
     pub edition: u32,
@@ -245,70 +301,150 @@ pub struct Head {
     pub n: u32,
 }
 
-pub fn head_body(body: &[u8]) -> Head
-    ensures { result ≡ head_of body.now }
-{
-    Head {
-        edition: fields::read1(body, 0),
-        kind: fields::read1(body, 1),
-        n: fields::read1(body, 2),
+impl Record for Head {
+    const MARK: Mark = Mark::TS;
+
+    ghost MARK = { mark_case.TS };
+
+    ghost of_body = { head_of };
+
+    ghost values = { of_head };
+
+    fn from_body(body: &[u8]) -> Head {
+        Head {
+            edition: fields::read::<u8>(body, 0),
+            kind: fields::read::<u8>(body, 1),
+            n: fields::read::<u8>(body, 2),
+        }
+    }
+
+    fn to_body(self, body: &mut [u8]) {
+        fields::store::<u8>(body, 0, self.edition);
+        fields::store::<u8>(body, 1, self.kind);
+        fields::store::<u8>(body, 2, self.n);
     }
 }
 
-// TK's body: O, C, T, D.
-pub fn task_body(body: &[u8]) -> Task
-    ensures { result ≡ task_of body.now }
-{
-    Task {
-        offset: fields::read4(body, 0),
-        time: fields::read4(body, 4),
-        period: fields::read4(body, 8),
-        deadline: fields::read4(body, 12),
+// TK: O, C, T, D.
+impl Record for Task {
+    const MARK: Mark = Mark::TK;
+
+    ghost MARK = { mark_case.TK };
+
+    ghost of_body = { task_of };
+
+    ghost values = { book.of_task };
+
+    fn from_body(body: &[u8]) -> Task {
+        Task {
+            offset: fields::read::<u32>(body, 0),
+            time: fields::read::<u32>(body, 4),
+            period: fields::read::<u32>(body, 8),
+            deadline: fields::read::<u32>(body, 12),
+        }
+    }
+
+    fn to_body(self, body: &mut [u8]) {
+        fields::store::<u32>(body, 0, self.offset);
+        fields::store::<u32>(body, 4, self.time);
+        fields::store::<u32>(body, 8, self.period);
+        fields::store::<u32>(body, 12, self.deadline);
     }
 }
 
-// SL's body: task, start.
-pub fn entry_body(body: &[u8]) -> Entry
-    ensures { result ≡ entry_of body.now }
-{
-    Entry {
-        task: fields::read1(body, 0),
-        start: fields::read4(body, 1),
+// SL: task, start.
+impl Record for Entry {
+    const MARK: Mark = Mark::SL;
+
+    ghost MARK = { mark_case.SL };
+
+    ghost of_body = { entry_of };
+
+    ghost values = { book.of_entry };
+
+    fn from_body(body: &[u8]) -> Entry {
+        Entry {
+            task: fields::read::<u8>(body, 0),
+            start: fields::read::<u32>(body, 1),
+        }
+    }
+
+    fn to_body(self, body: &mut [u8]) {
+        fields::store::<u8>(body, 0, self.task);
+        fields::store::<u32>(body, 1, self.start);
     }
 }
 
-// The entry of the SL record at a byte offset.
-pub fn entry_at(image: &[u8], at: usize) -> Entry
-    requires { at + book_marks.size book_marks.SL ≤ length image.now }
-    ensures { result ≡ entry_of (part_of image.now (at + 2) (book_marks.body_length book_marks.SL)) }
-{
-    entry_body(part(image, at + 2, ROWS[SL].body))
-}
+// ID: start, length.
+impl Record for Idle {
+    const MARK: Mark = Mark::ID;
 
-// ID's body: start, length.
-pub fn idle_body(body: &[u8]) -> Idle
-    ensures { result ≡ idle_of body.now }
-{
-    Idle {
-        start: fields::read4(body, 0),
-        length: fields::read2(body, 4),
+    ghost MARK = { mark_case.ID };
+
+    ghost of_body = { idle_of };
+
+    ghost values = { book.of_idle };
+
+    fn from_body(body: &[u8]) -> Idle {
+        Idle {
+            start: fields::read::<u32>(body, 0),
+            length: fields::read::<u16>(body, 4),
+        }
+    }
+
+    fn to_body(self, body: &mut [u8]) {
+        fields::store::<u32>(body, 0, self.start);
+        fields::store::<u16>(body, 4, self.length);
     }
 }
 
-// PV's body: task, job, delay.
-pub fn inversion_body(body: &[u8]) -> Inversion
-    ensures { result ≡ inversion_of body.now }
-{
-    Inversion {
-        task: fields::read1(body, 0),
-        job: fields::read2(body, 1),
-        delay: fields::read4(body, 3),
+// PV: task, job, delay.
+impl Record for Inversion {
+    const MARK: Mark = Mark::PV;
+
+    ghost MARK = { mark_case.PV };
+
+    ghost of_body = { inversion_of };
+
+    ghost values = { book.of_inversion };
+
+    fn from_body(body: &[u8]) -> Inversion {
+        Inversion {
+            task: fields::read::<u8>(body, 0),
+            job: fields::read::<u16>(body, 1),
+            delay: fields::read::<u32>(body, 3),
+        }
+    }
+
+    fn to_body(self, body: &mut [u8]) {
+        fields::store::<u8>(body, 0, self.task);
+        fields::store::<u16>(body, 1, self.job);
+        fields::store::<u32>(body, 3, self.delay);
     }
 }
 
-// EN's body: the number of records before it.
-pub fn end_body(body: &[u8]) -> u32
-    ensures { result ≡ count_of body.now }
-{
-    fields::read4(body, 0)
+// EN: the number of records before it.
+#[derive(Clone, Copy)]
+pub struct End {
+    pub before: u32,
+}
+
+impl Record for End {
+    const MARK: Mark = Mark::EN;
+
+    ghost MARK = { mark_case.EN };
+
+    ghost of_body = { end_of };
+
+    ghost values = { of_end };
+
+    fn from_body(body: &[u8]) -> End {
+        End {
+            before: fields::read::<u32>(body, 0),
+        }
+    }
+
+    fn to_body(self, body: &mut [u8]) {
+        fields::store::<u32>(body, 0, self.before);
+    }
 }

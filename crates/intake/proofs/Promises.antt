@@ -4,9 +4,10 @@ use mathlib.Core.Path.{◌≡◌, sym, ◌∙◌, ap}
 use mathlib.Core.List.{List, []}
 use Prim.Native.Nat.{ℕ}
 use lib.ListN.{length, drop}
-use Rattle.rules.specs.declared.MakeAnswer.{MakeAnswer}
 use Rattle.rules.specs.declared.Intake.{Intake}
 use Rattle.rules.specs.declared.Intake.TheVariants.{Shut, Open}
+use Rattle.std.specs.Prelude.{Result}
+use Rattle.rules.specs.declared.Located.{Located}
 use Rattle.rules.specs.Refusals.{Judged, gives, refuses}
 use Rattle.rules.specs.Operations.{check_tables, output_after, Rebuilds}
 use Rattle.rules.specs.Intake.{begun, held, joined, holding, Takes, accepted_length, close_held, close, rebuild_held, rebuild_held_output, ClosesRebuilding}
@@ -52,12 +53,12 @@ module _ {k r : Intake} {buffer fragment left : List ℕ} (met : Takes k buffer 
       (λ q e. ap length (met.output ∙ ap (λ (z : Judged (List ℕ)). output_after z buffer) e))
 
 -- closing answers as checking tables does of the bytes that are held, with their number
-pub closes_held : (k : Intake) (buffer bytes : List ℕ) {r : MakeAnswer} → r ≡ close k buffer → held k buffer ≡ gives bytes →
+pub closes_held : (k : Intake) (buffer bytes : List ℕ) {r : Result ℕ Located} → r ≡ close k buffer → held k buffer ≡ gives bytes →
     r ≡ accepted_length (length bytes) (check_tables bytes)
 closes_held k buffer bytes met e = met ∙ ap close_held e
 
 -- closing with rebuilding answers and writes as rebuilding does of the bytes that are held
-pub rebuilds_held : {k : Intake} {buffer bytes old left : List ℕ} {r : MakeAnswer} → ClosesRebuilding k buffer old r left → held k buffer ≡ gives bytes →
+pub rebuilds_held : {k : Intake} {buffer bytes old left : List ℕ} {r : Result ℕ Located} → ClosesRebuilding k buffer old r left → held k buffer ≡ gives bytes →
     Rebuilds bytes old r left
 rebuilds_held {old = old} met e = record {
   answer = met.answer ∙ ap (λ (z : Judged (List ℕ)). rebuild_held z old) e;

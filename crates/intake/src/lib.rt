@@ -4,7 +4,7 @@
 ghost use Rattle.std.specs.Prelude.{◌≡◌, ◌≤◌, ◌++◌, length, take, drop};
 ghost use Rattle.rules.specs.Intake as book;
 
-use rules::{CheckAnswer, Intake, MakeAnswer, TOO_LONG};
+use rules::{Intake, Located, TOO_LONG};
 
 // Begins: open, with no bytes taken. A buffer keeps what it has.
 pub fn begin() -> Intake
@@ -18,13 +18,8 @@ fn within(k: Intake, room: usize) -> Intake
     ensures { result ≡ book.within k room }
 {
     match k {
-        Intake::Shut => Intake::Shut,
-        Intake::Open(count) => {
-            if count <= room {
-                return Intake::Open(count);
-            }
-            Intake::Shut
-        }
+        Intake::Open(count) if count <= room => Intake::Open(count),
+        _ => Intake::Shut,
     }
 }
 
@@ -42,37 +37,32 @@ fn copy(from: &[u8], to: &mut [u8])
 pub fn take(k: Intake, buffer: &mut [u8], fragment: &[u8]) -> Intake
     ensures { book.Takes k buffer.old fragment.now result buffer.new }
 {
-    match within(k, buffer.len()) {
-        Intake::Shut => Intake::Shut,
-        Intake::Open(count) => {
-            if buffer.len() - count < fragment.len() {
-                return Intake::Shut;
-            }
-            copy(fragment, &mut buffer[count..]);
-            Intake::Open(count + fragment.len())
-        }
+    let Intake::Open(count) = within(k, buffer.len()) else {
+        return Intake::Shut;
+    };
+    if buffer.len() - count < fragment.len() {
+        return Intake::Shut;
     }
+    copy(fragment, &mut buffer[count..]);
+    Intake::Open(count + fragment.len())
 }
 
 // Closes: judges the bytes that are held, and answers the length of an image that is accepted. The intake is shut afterwards.
-pub fn close(k: Intake, buffer: &[u8]) -> MakeAnswer
+pub fn close(k: Intake, buffer: &[u8]) -> Result<usize, Located>
     ensures { result ≡ book.close k buffer.now }
 {
-    match within(k, buffer.len()) {
-        Intake::Shut => MakeAnswer::Refused(TOO_LONG),
-        Intake::Open(count) => match tables::check(&buffer[..count]) {
-            CheckAnswer::Accepted => MakeAnswer::Made(count),
-            CheckAnswer::Refused(r) => MakeAnswer::Refused(r),
-        },
-    }
+    let Intake::Open(count) = within(k, buffer.len()) else {
+        return Err(TOO_LONG);
+    };
+    tables::check(&buffer[..count]).map(|()| count)
 }
 
 // Closes: judges the bytes that are held and rebuilds their timetable into an output. The intake is shut afterwards.
-pub fn rebuild(k: Intake, buffer: &[u8], out: &mut [u8]) -> MakeAnswer
+pub fn rebuild(k: Intake, buffer: &[u8], out: &mut [u8]) -> Result<usize, Located>
     ensures { book.ClosesRebuilding k buffer.now out.old result out.new }
 {
-    match within(k, buffer.len()) {
-        Intake::Shut => MakeAnswer::Refused(TOO_LONG),
-        Intake::Open(count) => rebuilding::rebuild(&buffer[..count], out),
-    }
+    let Intake::Open(count) = within(k, buffer.len()) else {
+        return Err(TOO_LONG);
+    };
+    rebuilding::rebuild(&buffer[..count], out)
 }

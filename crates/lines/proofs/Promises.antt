@@ -10,7 +10,7 @@ use borrow.Author.Tests.{le-leb, lt-leb}
 use Rattle.fields.specs.Number.{Bytes}
 use Rattle.rules.specs.declared.Entry.{Entry}
 use Rattle.rules.specs.declared.Located.{Located}
-use Rattle.rules.specs.declared.CheckAnswer.TheVariants.{Refused}
+use Rattle.std.specs.Prelude.{Err}
 use Rattle.rules.specs.Tasks.{Set, hyperperiod}
 use Rattle.rules.specs.Framing.{frame_records}
 use Rattle.rules.specs.Operations.{check_tables}
@@ -37,13 +37,13 @@ unfolding listing
 accepted_listing {bytes} t = ap (text_of bytes) (rebuilds t)
 
 -- any other image is listed as the refusal that checking it gives
-pub refused_listing : (bytes : List ℕ) (r : Located) → check_tables bytes ≡ Refused r → listing bytes ≡ refused_text r
+pub refused_listing : (bytes : List ℕ) (r : Located) → check_tables bytes ≡ Err r → listing bytes ≡ refused_text r
 unfolding listing
 refused_listing bytes r e = let w = tables_refused_at bytes r e in ap (text_of bytes) w.judged ∙ ap refused_text (sym w.there)
 
 -- so the third number of its line is the byte at which the record begins that the second one names, 0 where it names none
-pub listed_byte : (bytes : List ℕ) → Bytes bytes → (r : Located) → check_tables bytes ≡ Refused r → TheByte 2 bytes r.number r.place r.offset
-listed_byte bytes b r e = tables_byte bytes b (Refused r) e
+pub listed_byte : (bytes : List ℕ) → Bytes bytes → (r : Located) → check_tables bytes ≡ Err r → TheByte 2 bytes r.number r.place r.offset
+listed_byte bytes b r e = tables_byte bytes b (Err r) e
 
 -- an input of at most 65,536 bytes is listed
 pub judged_input : (input : List ℕ) → length input ≤ longest_input → program_text input ≡ listing input

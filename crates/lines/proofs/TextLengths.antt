@@ -1,7 +1,7 @@
 -- How long a listing is: a line of a valid timetable has at most 20 bytes, its whole listing at most 81,928. Assumes nothing.
 use mathlib.Core.Path.{◌≡◌}
 use mathlib.Core.List.{List, [], ◌∷◌, ◌++◌}
-use Prim.Native.Nat.{ℕ, zero, suc, ◌*◌, ◌≤◌, ◌<◌}
+use Prim.Native.Nat.{ℕ, zero, suc, ◌+◌, ◌*◌, ◌≤◌, ◌<◌}
 use native.Mathlib.Omega.{arith}
 use lib.Dec.{eqb}
 use lib.ListN.{length, take, length-append}
@@ -18,15 +18,29 @@ use Rattle.text.proofs.Lengths.{number_short}
 use Rattle.lines.specs.Text.{line, entry_line, entry_lines, ok_line, listing_of}
 use Rattle.lines.specs.Lists.{room}
 
--- a line of a task of two digits, a job of four, a start and an end of five
-line_short : (task job start end : ℕ) → task < 100 → job < 10000 → start < 100000 → end < 100000 → length (line task job start end) ≤ 20
+-- a line, by its numbers
+pub line_parts : (task job start end : ℕ) → length (line task job start end)
+    ≡ length (number_then task space) + length (number_then job space) + length (number_then start space) + length (number_then end line_end)
 unfolding line
-line_short task job start end a b c d =
+line_parts task job start end =
     omega (
       arith,
       length-append (number_then task space) (number_then job space ++ (number_then start space ++ number_then end line_end)),
       length-append (number_then job space) (number_then start space ++ number_then end line_end),
       length-append (number_then start space) (number_then end line_end),
+    )
+
+-- the last line, by its number
+pub ok_parts : (starts : ℕ) → length (ok_line starts) ≡ 3 + length (number_then starts line_end)
+unfolding ok_line
+ok_parts starts = omega arith
+
+-- a line of a task of two digits, a job of four, a start and an end of five
+line_short : (task job start end : ℕ) → task < 100 → job < 10000 → start < 100000 → end < 100000 → length (line task job start end) ≤ 20
+line_short task job start end a b c d =
+    omega (
+      arith,
+      line_parts task job start end,
       number_short 1 task space a,
       number_short 3 job space b,
       number_short 4 start space c,
@@ -35,8 +49,7 @@ line_short task job start end a b c d =
 
 -- the last line, with four digits
 ok_short : (starts : ℕ) → starts < 10000 → length (ok_line starts) ≤ 8
-unfolding ok_line
-ok_short starts h = omega (arith, number_short 3 starts line_end h)
+ok_short starts h = omega (arith, ok_parts starts, number_short 3 starts line_end h)
 
 -- a task appears no more often than there are entries
 pub count_few : (i : ℕ) (τ : List Entry) → count i τ ≤ length τ

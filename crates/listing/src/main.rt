@@ -6,37 +6,32 @@
 ghost use Rattle.standard.specs.Calls.{Holds};
 
 use lines::ROOM;
-use standard::{Input, Streams};
+use standard::Streams;
+use std::io;
 use std::io::{Read, Write};
 use text::LONGEST_INPUT;
 
 // Reads standard input until it ends or the buffer is full.
-fn read_input<R: Read, W, E>(streams: &mut Streams<R, W, E>, input: &mut [u8]) -> Input
+fn read_input<R: Read, W, E>(streams: &mut Streams<R, W, E>, input: &mut [u8]) -> io::Result<usize>
     ensures { Holds 0 result input.new }
 {
     let mut at: usize = 0;
     while at < input.len() {
-        match standard::read_behind(streams, input, at) {
-            Input::Held(n) => {
-                if n == at {
-                    return Input::Held(at);
-                }
-                at = n;
-            }
-            Input::Failed => {
-                return Input::Failed;
-            }
+        let held = streams.read_behind(input, at)?;
+        if held == at {
+            break;
         }
+        at = held;
     }
-    Input::Held(at)
+    Ok(at)
 }
 
 // The listing of what was read.
 fn write_listing<R, W: Write, E: Write>(streams: &mut Streams<R, W, E>, input: &[u8]) {
     let mut text = [0u8; ROOM];
     let n = lines::list(input, &mut text);
-    if standard::write_text(streams, &text[..n]) < n {
-        standard::fail(streams, b"listing: standard output");
+    if let Err(unfinished) = streams.write_text(&text[..n]) {
+        streams.fail(b"listing: standard output", &unfinished.error);
     }
 }
 
@@ -44,7 +39,7 @@ fn main(rt: HostRuntime) {
     let mut streams = Streams::new(rt.stdin(), rt.stdout(), rt.stderr());
     let mut input = [0u8; LONGEST_INPUT + 1];
     match read_input(&mut streams, &mut input) {
-        Input::Held(n) => write_listing(&mut streams, &input[..n]),
-        Input::Failed => standard::fail(&mut streams, b"listing: standard input"),
+        Ok(n) => write_listing(&mut streams, &input[..n]),
+        Err(error) => streams.fail(b"listing: standard input", &error),
     }
 }

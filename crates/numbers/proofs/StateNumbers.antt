@@ -1,6 +1,7 @@
 -- The dispatcher's state and its numbers correspond one to one. Assumes nothing.
 use mathlib.Core.Path.{◌≡◌, refl, sym, ◌∙◌, ap}
-use mathlib.Core.List.{List, [], ◌∷◌, ◌++◌, append-nil}
+use mathlib.Core.List.{List, [], ◌∷◌, ◌++◌, map, append-nil}
+use Rattle.std.specs.List.{range_with_len}
 use Prim.Native.Nat.{ℕ, zero, suc, ◌+◌, ◌*◌, ◌≤◌, ◌<◌}
 use native.Mathlib.Omega.{arith}
 use lib.ListN.{length, drop, drop_of_length-le}
@@ -11,7 +12,7 @@ use Rattle.rules.specs.Dispatcher.{numbers_a_task, task_numbers, numbers, Shaped
 use Rattle.rules.specs.Dispatcher.{next_position, cycle_position, task_position, job_position, start_position, idle_position, inversions_position, first_idle_position, first_inversions_position}
 use Rattle.rules.proofs.PossibleStates.{four_each, count_numbers}
 use Rattle.rules.proofs.Cases.{clash}
-use Rattle.numbers.specs.Numbers.{slots_from, number_at, task_from, numbers_from, state_from}
+use Rattle.numbers.specs.Numbers.{slots, number_at, task_from, set_from, numbers_from, state_from}
 use Rattle.numbers.proofs.FilledSlots.{sixteen}
 
 module _ (lent : List ℕ) where
@@ -21,18 +22,16 @@ module _ (lent : List ℕ) where
 
   -- so many numbers from a place on, and what is behind them
   numbers_then : (at i many from behind : ℕ) → from ≡ at + i → behind ≡ from + many → behind ≤ length lent →
-      slots_from (λ (k : ℕ). number_at lent (at + k)) i many ++ drop behind lent ≡ drop from lent
-  unfolding slots_from
+      map (λ (k : ℕ). number_at lent (at + k)) (range_with_len i many) ++ drop behind lent ≡ drop from lent
   numbers_then at i zero from behind e f l = let here : behind ≡ from = omega arith in rw here
   numbers_then at i (suc many) from behind e f l =
       rw (← e)
-      (ap (λ (x : List ℕ). number_at lent from ∷ x) (numbers_then at (suc i) many (suc from) behind (omega arith) (omega arith) l)
+      (ap (λ (x : List ℕ). number_at lent from ∷ x) (numbers_then at (i + 1) many (suc from) behind (omega arith) (omega arith) l)
       ∙ number_then from (omega arith))
 
   -- so many tasks from a place on, and what is behind their numbers
-  pub tasks_then : (at i many from behind : ℕ) → from ≡ at + numbers_a_task * i → behind ≡ from + numbers_a_task * many → behind ≤ length lent →
-      task_numbers (slots_from (λ (k : ℕ). task_from lent (at + numbers_a_task * k)) i many) ++ drop behind lent ≡ drop from lent
-  unfolding slots_from
+  tasks_then : (at i many from behind : ℕ) → from ≡ at + numbers_a_task * i → behind ≡ from + numbers_a_task * many → behind ≤ length lent →
+      task_numbers (map (λ (k : ℕ). task_from lent (at + numbers_a_task * k)) (range_with_len i many)) ++ drop behind lent ≡ drop from lent
   tasks_then at i zero from behind e f l = let here : behind ≡ from = omega arith in rw here
   tasks_then at i (suc many) from behind e f l =
       let one : from + 1 ≡ suc from = omega arith in
@@ -41,13 +40,19 @@ module _ (lent : List ℕ) where
       let t = task_from lent from in
       rw (← e)
       (ap (λ (x : List ℕ). t.offset ∷ t.time ∷ t.period ∷ t.deadline ∷ x)
-      (tasks_then at (suc i) many (suc (suc (suc (suc from)))) behind (omega arith) (omega arith) l)
+      (tasks_then at (i + 1) many (suc (suc (suc (suc from)))) behind (omega arith) (omega arith) l)
       ∙ rw (one, two, three)
       (rw (number_then (suc (suc (suc from))) (omega arith), number_then (suc (suc from)) (omega arith), number_then (suc from) (omega arith))
       (number_then from (omega arith))))
 
+  -- a set's tasks from a place on, and what is behind their numbers
+  pub set_then : (n at behind : ℕ) → behind ≡ at + 64 → behind ≤ length lent → task_numbers (set_from n lent at).tasks ++ drop behind lent ≡ drop at lent
+  unfolding slots
+  set_then n at behind e l = tasks_then at 0 16 at behind (omega arith) e l
+
   -- the sixteen numbers from a place on, and what is behind them
   sixteen_then : (at behind : ℕ) → behind ≡ at + 16 → behind ≤ length lent → numbers_from lent at ++ drop behind lent ≡ drop at lent
+  unfolding slots
   sixteen_then at behind e l = numbers_then at 0 16 at behind (omega arith) e l
 
   -- the numbers of the state that numbers are: those numbers
@@ -74,7 +79,7 @@ module _ (lent : List ℕ) where
       ∙ number_then cycle_position (omega arith) in
       ap (λ (x : List ℕ). number_at lent 0 ∷ (tasks ++ (next ++ x))) from-cycle
       ∙ ap (λ (x : List ℕ). number_at lent 0 ∷ (tasks ++ x)) (sixteen_then next_position cycle_position refl (omega arith))
-      ∙ ap (λ (x : List ℕ). number_at lent 0 ∷ x) (tasks_then 1 0 16 1 next_position refl refl (omega arith))
+      ∙ ap (λ (x : List ℕ). number_at lent 0 ∷ x) (set_then (number_at lent 0) 1 next_position refl (omega arith))
       ∙ number_then 0 (omega arith)
 
   -- that state has sixteen slots in each of its lists

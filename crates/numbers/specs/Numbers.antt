@@ -1,5 +1,6 @@
 -- What numbers in memory stand for, in the rule book's terms. Assumes nothing.
-use Rattle.std.specs.Prelude.{List, [], ◌∷◌, ℕ, zero, suc, ◌+◌, ◌*◌, get_or, take}
+use Rattle.std.specs.Prelude.{List, ℕ, ◌+◌, ◌*◌, get_or, take, map}
+use Rattle.std.specs.List.{range_with_len}
 use Rattle.rules.specs.declared.Task.{Task}
 use Rattle.rules.specs.declared.TaskSet.{TaskSet}
 use Rattle.rules.specs.declared.Offsets.{Offsets}
@@ -7,14 +8,9 @@ use Rattle.rules.specs.declared.Dispatcher.{Dispatcher as State}
 use Rattle.rules.specs.Tasks.{limits}
 use Rattle.rules.specs.Dispatcher.{numbers_a_task, next_position, cycle_position, task_position, job_position, start_position, idle_position, first_idle_position}
 
--- so many slots from the i-th on, each with its value
-unfoldable pub slots_from : {A : Type 0} → (ℕ → A) → ℕ → ℕ → List A
-slots_from value i zero = []
-slots_from value i (suc many) = value i ∷ slots_from value (suc i) many
-
 -- sixteen slots, each with its value
-abbrev pub slots : {A : Type 0} → (ℕ → A) → List A
-slots value = slots_from value 0 limits.tasks
+unfoldable pub slots : {A : Type 0} → (ℕ → A) → List A
+slots value = map value (range_with_len 0 limits.tasks)
 
 -- the number at a place
 abbrev pub number_at : List ℕ → ℕ → ℕ

@@ -53,10 +53,8 @@ fn set_from(n: u32, numbers: &[u32], at: usize) -> TaskSet
     ensures { result ≡ set_from n numbers.now at }
 {
     let mut tasks = [NO_TASK; 16];
-    let mut i: usize = 0;
-    while i < 16 {
-        tasks[i] = task_from(numbers, at + TASK_NUMBERS * i);
-        i += 1;
+    for (i, task) in tasks.iter_mut().enumerate() {
+        *task = task_from(numbers, at + TASK_NUMBERS * i);
     }
     TaskSet { n, tasks }
 }
@@ -67,10 +65,8 @@ pub fn numbers_from(numbers: &[u32], at: usize) -> [u32; 16]
     ensures { result ≡ numbers_from numbers.now at }
 {
     let mut slots = [0u32; 16];
-    let mut k: usize = 0;
-    while k < 16 {
-        slots[k] = numbers[at + k];
-        k += 1;
+    for (k, slot) in slots.iter_mut().enumerate() {
+        *slot = numbers[at + k];
     }
     slots
 }
@@ -125,10 +121,8 @@ pub fn put_tasks(numbers: &mut [u32], at: usize, s: TaskSet)
     requires { at + 64 ≤ length numbers.old }
     ensures { numbers.new ≡ sets numbers.old at (book.task_numbers s.tasks) }
 {
-    let mut k: usize = 0;
-    while k < 16 {
-        put_task(numbers, at + TASK_NUMBERS * k, s.tasks[k]);
-        k += 1;
+    for (k, t) in s.tasks.iter().enumerate() {
+        put_task(numbers, at + TASK_NUMBERS * k, *t);
     }
 }
 
@@ -137,10 +131,8 @@ fn put_numbers(numbers: &mut [u32; NUMBERS], at: usize, slots: [u32; 16])
     requires { at + 16 ≤ book.number_count }
     ensures { numbers.new ≡ sets numbers.old at slots }
 {
-    let mut j: usize = 0;
-    while j < 16 {
-        numbers[at + j] = slots[j];
-        j += 1;
+    for (j, number) in slots.iter().enumerate() {
+        numbers[at + j] = *number;
     }
 }
 

@@ -8,10 +8,8 @@ use Prim.Native.Nat.{ℕ, ◌≤◌}
 use lib.ListN.{length, take, drop}
 use Rattle.fields.specs.Number.{Bytes}
 use Rattle.rules.specs.declared.Entry.{Entry}
-use Rattle.rules.specs.declared.CheckAnswer.{CheckAnswer}
-use Rattle.rules.specs.declared.CheckAnswer.TheVariants.{Accepted}
-use Rattle.rules.specs.declared.MakeAnswer.{MakeAnswer}
-use Rattle.rules.specs.declared.MakeAnswer.TheVariants.{Made}
+use Rattle.std.specs.Prelude.{Result, Ok, ⊤}
+use Rattle.rules.specs.declared.Located.{Located}
 use Rattle.rules.specs.Tasks.{Set}
 use Rattle.rules.specs.Judging.{tables}
 use Rattle.rules.specs.Image.{timetable_image, table_image}
@@ -23,12 +21,12 @@ use Rattle.rules.proofs.Demand2.{derives, rebuilds, derive_made, rebuild_made}
 use Rattle.rules.proofs.Promises as book
 
 -- the image of a timetable's tables is accepted
-accepts_tables : {bytes : List ℕ} {ts : Set} {τ : List Entry} → TableImage bytes ts τ → check_tables bytes ≡ Accepted
+accepts_tables : {bytes : List ℕ} {ts : Set} {τ : List Entry} → TableImage bytes ts τ → check_tables bytes ≡ Ok tt
 unfolding check_tables
 accepts_tables {bytes} t = ap (check_answer bytes) (rebuilds t)
 
 -- and that of a timetable
-accepts_timetable : {bytes : List ℕ} {ts : Set} {τ : List Entry} → TimetableImage bytes ts τ → check_timetable bytes ≡ Accepted
+accepts_timetable : {bytes : List ℕ} {ts : Set} {τ : List Entry} → TimetableImage bytes ts τ → check_timetable bytes ≡ Ok tt
 unfolding check_timetable
 accepts_timetable {bytes} t = ap (check_answer bytes) (derives t)
 
@@ -37,13 +35,13 @@ is_of_tables : {bytes : List ℕ} {ts : Set} {τ : List Entry} → TableImage by
 is_of_tables {bytes} {ts} t = t.is ∙ ap (table_image ts) (one_table t.good t.valid t.has)
 
 -- the check of table images answers Accepted exactly when some valid timetable has those tables
-pub accepted_exactly : (bytes : List ℕ) → Bytes bytes → (c : CheckAnswer) → c ≡ check_tables bytes →
-    (c ≡ Accepted) ↔ ((ts : Set) × (τ : List Entry) × TableImage bytes ts τ)
+pub accepted_exactly : (bytes : List ℕ) → Bytes bytes → (c : Result ⊤ Located) → c ≡ check_tables bytes →
+    (c ≡ Ok tt) ↔ ((ts : Set) × (τ : List Entry) × TableImage bytes ts τ)
 accepted_exactly bytes b c met = (λ e. (book.accepted_tables bytes b).0 (sym met ∙ e), λ w. met ∙ accepts_tables w.2)
 
 -- what `derive` wrote
-module _ (bytes : List ℕ) (are-bytes : Bytes bytes) (old : List ℕ) (r : MakeAnswer) (out : List ℕ) (met : Derives bytes old r out)
-    (n : ℕ) (made : r ≡ Made n) where
+module _ (bytes : List ℕ) (are-bytes : Bytes bytes) (old : List ℕ) (r : Result ℕ Located) (out : List ℕ) (met : Derives bytes old r out)
+    (n : ℕ) (made : r ≡ Ok n) where
   -- is the image of the tables of the timetable that it was given
   pub derived_of : (ts : Set) × (τ : List Entry) × TimetableImage bytes ts τ × TableImage (take n out) ts τ
   derived_of =
@@ -63,22 +61,22 @@ module _ (bytes : List ℕ) (are-bytes : Bytes bytes) (old : List ℕ) (r : Make
       )
 
   -- is accepted
-  pub derived_accepted : (c : CheckAnswer) → c ≡ check_tables (take n out) → c ≡ Accepted
+  pub derived_accepted : (c : Result ⊤ Located) → c ≡ check_tables (take n out) → c ≡ Ok tt
   derived_accepted c checked = checked ∙ accepts_tables derived_of.3
 
   -- and from it `rebuild` gives back the very bytes that `derive` was given, where there is room for them
-  pub rebuilds_derived : (lent : List ℕ) (q : MakeAnswer) (filled : List ℕ) → Rebuilds (take n out) lent q filled → length bytes ≤ length lent →
-      (q ≡ Made (length bytes)) × (filled ≡ bytes ++ drop (length bytes) lent)
+  pub rebuilds_derived : (lent : List ℕ) (q : Result ℕ Located) (filled : List ℕ) → Rebuilds (take n out) lent q filled → length bytes ≤ length lent →
+      (q ≡ Ok (length bytes)) × (filled ≡ bytes ++ drop (length bytes) lent)
   rebuilds_derived lent q filled again room =
       let back = book.rebuild_after_derive bytes old n are-bytes (sym met.answer ∙ made) lent room in
       let given : take n out ≡ take n (derive_output bytes old) = ap (take n) met.output in
       (rw given at again.answer ∙ back.0, rw given at again.output ∙ back.1)
 
 -- `derive` writes the same bytes only from the same bytes: no fixed tables
-pub derived_alike : (bytes : List ℕ) (b : Bytes bytes) (old : List ℕ) (r : MakeAnswer) (out : List ℕ) (met : Derives bytes old r out)
-    (n : ℕ) (made : r ≡ Made n)
-    (other : List ℕ) (c : Bytes other) (lent : List ℕ) (q : MakeAnswer) (filled : List ℕ) (also : Derives other lent q filled)
-    (m : ℕ) (makes : q ≡ Made m) →
+pub derived_alike : (bytes : List ℕ) (b : Bytes bytes) (old : List ℕ) (r : Result ℕ Located) (out : List ℕ) (met : Derives bytes old r out)
+    (n : ℕ) (made : r ≡ Ok n)
+    (other : List ℕ) (c : Bytes other) (lent : List ℕ) (q : Result ℕ Located) (filled : List ℕ) (also : Derives other lent q filled)
+    (m : ℕ) (makes : q ≡ Ok m) →
     take n out ≡ take m filled → bytes ≡ other
 derived_alike bytes b old r out met n made other c lent q filled also m makes same =
     let one = derived_of bytes b old r out met n made in
@@ -89,8 +87,8 @@ derived_alike bytes b old r out met n made other c lent q filled also m makes sa
     one.2.is ∙ ap (λ (i : Timed). timetable_image i.set i.entries) alike ∙ sym two.2.is
 
 -- what `rebuild` wrote
-module _ (bytes : List ℕ) (are-bytes : Bytes bytes) (old : List ℕ) (r : MakeAnswer) (out : List ℕ) (met : Rebuilds bytes old r out)
-    (n : ℕ) (made : r ≡ Made n) where
+module _ (bytes : List ℕ) (are-bytes : Bytes bytes) (old : List ℕ) (r : Result ℕ Located) (out : List ℕ) (met : Rebuilds bytes old r out)
+    (n : ℕ) (made : r ≡ Ok n) where
   -- is the image of the timetable behind the tables that it was given
   pub rebuilt_of : (ts : Set) × (τ : List Entry) × TableImage bytes ts τ × TimetableImage (take n out) ts τ
   rebuilt_of =
@@ -99,22 +97,22 @@ module _ (bytes : List ℕ) (are-bytes : Bytes bytes) (old : List ℕ) (r : Make
       (w.0, w.1, t, record { h = t.h; good = t.good; valid = t.valid; is = ap (take n) met.output ∙ w.3 })
 
   -- is accepted
-  pub rebuilt_accepted : (c : CheckAnswer) → c ≡ check_timetable (take n out) → c ≡ Accepted
+  pub rebuilt_accepted : (c : Result ⊤ Located) → c ≡ check_timetable (take n out) → c ≡ Ok tt
   rebuilt_accepted c checked = checked ∙ accepts_timetable rebuilt_of.3
 
   -- and from it `derive` gives back the very bytes that `rebuild` was given, where there is room for them
-  pub derives_rebuilt : (lent : List ℕ) (q : MakeAnswer) (filled : List ℕ) → Derives (take n out) lent q filled → length bytes ≤ length lent →
-      (q ≡ Made (length bytes)) × (filled ≡ bytes ++ drop (length bytes) lent)
+  pub derives_rebuilt : (lent : List ℕ) (q : Result ℕ Located) (filled : List ℕ) → Derives (take n out) lent q filled → length bytes ≤ length lent →
+      (q ≡ Ok (length bytes)) × (filled ≡ bytes ++ drop (length bytes) lent)
   derives_rebuilt lent q filled again room =
       let back = book.derive_after_rebuild bytes old n are-bytes (sym met.answer ∙ made) lent room in
       let given : take n out ≡ take n (rebuild_output bytes old) = ap (take n) met.output in
       (rw given at again.answer ∙ back.0, rw given at again.output ∙ back.1)
 
 -- `rebuild` writes the same bytes only from the same bytes: no fixed timetable
-pub rebuilt_alike : (bytes : List ℕ) (b : Bytes bytes) (old : List ℕ) (r : MakeAnswer) (out : List ℕ) (met : Rebuilds bytes old r out)
-    (n : ℕ) (made : r ≡ Made n)
-    (other : List ℕ) (c : Bytes other) (lent : List ℕ) (q : MakeAnswer) (filled : List ℕ) (also : Rebuilds other lent q filled)
-    (m : ℕ) (makes : q ≡ Made m) →
+pub rebuilt_alike : (bytes : List ℕ) (b : Bytes bytes) (old : List ℕ) (r : Result ℕ Located) (out : List ℕ) (met : Rebuilds bytes old r out)
+    (n : ℕ) (made : r ≡ Ok n)
+    (other : List ℕ) (c : Bytes other) (lent : List ℕ) (q : Result ℕ Located) (filled : List ℕ) (also : Rebuilds other lent q filled)
+    (m : ℕ) (makes : q ≡ Ok m) →
     take n out ≡ take m filled → bytes ≡ other
 rebuilt_alike bytes b old r out met n made other c lent q filled also m makes same =
     let one = rebuilt_of bytes b old r out met n made in

@@ -18,9 +18,11 @@ use Rattle.rules.proofs.Cases.{clash, gives_in}
 use Rattle.rules.proofs.Framed.{written_length}
 use Rattle.rules.proofs.OffsetReplay.{replay_done}
 use Rattle.rules.proofs.AcceptedTables.{no_faults, replayed}
-use Rattle.sets.specs.Kept.{Rows, tasks_in, Keeps}
+use Rattle.sets.specs.declared.Kept.{Kept}
+use Rattle.sets.specs.Kept.{tasks_in, Keeps}
 use Rattle.replay.specs.Runs.{entries_from, CanReplay, cycle_of}
-use Rattle.replay.proofs.Cycles.{by_answer, cycle_stand, cycle_stuck, cycle_done}
+use Rattle.replay.proofs.Running.{by_answer}
+use Rattle.replay.proofs.Cycles.{cycle_stand, cycle_stuck, cycle_done}
 use Rattle.writing.specs.Writing.{put_at}
 use Rattle.writing.proofs.Puts.{put_fits, put_none, put_length, put_next}
 use Rattle.rebuilding.specs.Rebuilt.{TimetableBehind, entries_bytes, entries_put, CanPut}
@@ -49,7 +51,7 @@ puts_behind old at bytes room =
     rw (part, none, put_fits (drop at old) 0 bytes (omega (arith, long)), zero-add, drop-drop, append-nil) (sym (put_fits old at bytes room))
 
 -- an accepted image, and what is kept of its set
-module _ {bytes : List ℕ} {ts : Set} {kept : Rows} {first : Offsets} {τ : List Entry} (b : TimetableBehind bytes ts first τ) (keeps : Keeps ts kept) where
+module _ {bytes : List ℕ} {ts : Set} {kept : Kept} {first : Offsets} {τ : List Entry} (b : TimetableBehind bytes ts first τ) (keeps : Keeps ts kept) where
   -- it may be replayed
   pub can_replay : CanReplay ts bytes kept first
   can_replay =

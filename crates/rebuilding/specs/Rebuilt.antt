@@ -10,7 +10,8 @@ use Rattle.rules.specs.Marks.{SL, EN, size, head_length_of}
 use Rattle.rules.specs.Image.{image, records, of_entry}
 use Rattle.rules.specs.Offsets.{first_offsets}
 use Rattle.rules.specs.Operations.{read_tables}
-use Rattle.sets.specs.Kept.{Rows, tasks_in, Keeps}
+use Rattle.sets.specs.declared.Kept.{Kept}
+use Rattle.sets.specs.Kept.{tasks_in, Keeps}
 use Rattle.writing.specs.Writing.{put_at}
 
 -- an accepted image: its set, its tables with the offsets as at a cycle's start, and the timetable behind them
@@ -33,7 +34,7 @@ abbrev pub entries_put : List ℕ → ℕ → List Entry → List ℕ
 entries_put old n τ = put_at old (head_length_of n) (entries_bytes τ)
 
 -- an accepted image, what is kept of its set, and room for the entries of its timetable behind the tasks
-pub record CanPut (ts : Set) (bytes : List ℕ) (kept : Rows) (first : Offsets) (out : List ℕ) : Type 0 where
+pub record CanPut (ts : Set) (bytes : List ℕ) (kept : Kept) (first : Offsets) (out : List ℕ) : Type 0 where
   pub entries : List Entry
   pub behind : TimetableBehind bytes ts first entries
   pub keeps : Keeps ts kept

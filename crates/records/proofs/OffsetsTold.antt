@@ -8,6 +8,7 @@ use native.Mathlib.Omega.{arith}
 use native.Mathlib.Nat.{zero-add}
 use lib.Dec.{ltb}
 use lib.ListN.{length, replicate, length-append, length-replicate}
+use borrow.Author.Count.{below_more}
 use borrow.Author.Tests.{lt-ltb, le-ltb, ltb-true}
 use Rattle.rules.specs.declared.Inversion.{Inversion}
 use Rattle.rules.specs.declared.Offsets.{Offsets}
@@ -80,9 +81,7 @@ told_offset bytes n idles inversions i =
     inversions_offset n idles + lower_before i (inversions_at bytes (inversions_offset n idles) inversions) * size PV
 
 -- the records before j are of tasks that have their offsets, and the other slots are 0
-pub record ToldBefore (bytes : List ℕ) (n idles inversions : ℕ) (offsets : List ℕ) (filled at j : ℕ) : Type 0 where
-  pub place : j ≤ inversions
-  pub offset : at ≡ inversions_offset n idles + j * size PV
+pub record ToldBefore (bytes : List ℕ) (n idles inversions : ℕ) (offsets : List ℕ) (filled j : ℕ) : Type 0 where
   pub few_filled : filled ≤ n
   pub passed : (k : ℕ) → k < j → (inversion_from bytes (inversions_offset n idles) k).task < filled
   pub slots : length offsets ≡ limits.tasks
@@ -90,11 +89,9 @@ pub record ToldBefore (bytes : List ℕ) (n idles inversions : ℕ) (offsets : L
   pub others : (i : ℕ) → filled ≤ i → slot offsets i ≡ 0
 
 -- so at the first record
-pub told_none_yet : (bytes : List ℕ) (n idles inversions : ℕ) (offsets : List ℕ) (at : ℕ) → at ≡ inversions_offset n idles →
-    length offsets ≡ limits.tasks → ((i : ℕ) → slot offsets i ≡ 0) → ToldBefore bytes n idles inversions offsets 0 at 0
-told_none_yet bytes n idles inversions offsets at e s z = record {
-  place = omega arith;
-  offset = omega arith;
+pub told_none_yet : (bytes : List ℕ) (n idles inversions : ℕ) (offsets : List ℕ) → length offsets ≡ limits.tasks → ((i : ℕ) → slot offsets i ≡ 0) →
+    ToldBefore bytes n idles inversions offsets 0 0
+told_none_yet bytes n idles inversions offsets s z = record {
   few_filled = omega arith;
   passed = λ k l. absurd (omega arith);
   slots = s;
@@ -102,59 +99,51 @@ told_none_yet bytes n idles inversions offsets at e s z = record {
   others = λ i l. z i;
 }
 
-module _ {bytes : List ℕ} {n idles inversions : ℕ} {offsets : List ℕ} {filled at j : ℕ} (b : ToldBefore bytes n idles inversions offsets filled at j) where
+module _ {bytes : List ℕ} {n idles inversions : ℕ} {offsets : List ℕ} {filled j : ℕ} (b : ToldBefore bytes n idles inversions offsets filled j)
+    (within : j ≤ inversions) where
+  -- the offset of record j, and the record
+  abbrev at : ℕ
+  at = inversions_offset n idles + j * size PV
+
+  abbrev here : Inversion
+  here = inversion_in bytes at
+
   -- an offset is told for tasks that are not below those filled, up to the task of the record at the place
-  told_here : (i : ℕ) → filled ≤ i → (j < inversions → i ≤ (inversion_in bytes at).task) → at ≡ told_offset bytes n idles inversions i
+  told_here : (i : ℕ) → filled ≤ i → (j < inversions → i ≤ here.task) → at ≡ told_offset bytes n idles inversions i
   told_here i l m =
       let found : lower_before i (inversions_at bytes (inversions_offset n idles) inversions) ≡ j =
-      lower_found bytes i (inversions_offset n idles) inversions j b.place (λ k q. omega (arith, b.passed k q)) (λ q. rw (← b.offset) (m q)) in
-      rw found b.offset
+      lower_found bytes i (inversions_offset n idles) inversions j within (λ k q. omega (arith, b.passed k q)) m in
+      rw found refl
 
-  -- with the slots up to a place filled with the offset, the tasks below it have theirs
-  told_more : (to : ℕ) (after : List ℕ) → Filled offsets (λ (i : ℕ). at) filled to after → (j < inversions → to ≤ (inversion_in bytes at).task + 1) →
-      (i : ℕ) → i < to → slot after i ≡ told_offset bytes n idles inversions i
-  told_more to after f m i l =
-      by_le filled i (λ q. f.inside i q l ∙ told_here i q (λ p. omega (arith, m p))) (λ q. f.below i q ∙ b.told i q)
-
-  module _ (l : j < inversions) (r : Inversion) (is : r ≡ inversion_in bytes at) where
-    -- the record's task is below n where every record's is
-    pub task_here : TasksBelow n (inversions_at bytes (inversions_offset n idles) inversions) → r.task < n
-    task_here q = rw (is, b.offset) (task_below bytes n (inversions_offset n idles) inversions j q l)
-
-    -- every record up to this one is of a task below a bound
-    passed_more : (to : ℕ) → filled ≤ to → r.task < to → (k : ℕ) → k < j + 1 → (inversion_from bytes (inversions_offset n idles) k).task < to
-    passed_more to m h k q =
-        by_le j k
-        (λ p. let e : inversions_offset n idles + k * size PV ≡ at = omega (arith, b.offset) in rw e (omega (arith, ap (λ (q : Inversion). q.task) is)))
-        (λ p. omega (arith, b.passed k p))
+  module _ (value : ℕ) (value-is : value ≡ at) (to : ℕ) (after : List ℕ) (f : Filled offsets (λ (i : ℕ). value) filled to after) where
+    -- with the slots up to a place filled with the offset, the tasks below it have theirs
+    told_more : (j < inversions → to ≤ here.task + 1) → (i : ℕ) → i < to → slot after i ≡ told_offset bytes n idles inversions i
+    told_more m i l = by_le filled i (λ q. f.inside i q l ∙ value-is ∙ told_here i q (λ p. omega (arith, m p))) (λ q. f.below i q ∙ b.told i q)
 
     -- the tasks up to the record's get its offset
-    pub told_up_to : filled < r.task + 1 → r.task < n → (after : List ℕ) → Filled offsets (λ (i : ℕ). at) filled (r.task + 1) after →
-        ToldBefore bytes n idles inversions after (r.task + 1) (at + size PV) (j + 1)
-    told_up_to m h after f = record {
-      place = omega arith;
-      offset = omega (arith, b.offset);
-      few_filled = omega arith;
-      passed = passed_more (r.task + 1) (omega arith) (omega arith);
-      slots = f.slots ∙ b.slots;
-      told = told_more (r.task + 1) after f (λ p. omega (arith, ap (λ (q : Inversion). q.task) is));
-      others = λ i q. f.above i q ∙ b.others i (omega arith);
-    }
+    pub told_up_to : (r : Inversion) → r ≡ here → to ≡ r.task + 1 → filled < to → to ≤ n → ToldBefore bytes n idles inversions after to (j + 1)
+    told_up_to r is to-is m h =
+        let same : r.task ≡ here.task = ap (λ (q : Inversion). q.task) is in
+        record {
+          few_filled = h;
+          passed = below_more _ j (λ k q. omega (arith, b.passed k q)) (omega arith);
+          slots = f.slots ∙ b.slots;
+          told = told_more (λ p. omega arith);
+          others = λ i q. f.above i q ∙ b.others i (omega arith);
+        }
 
-    -- a record of a task that has its offset is passed
-    pub told_already : r.task + 1 ≤ filled → ToldBefore bytes n idles inversions offsets filled (at + size PV) (j + 1)
-    told_already m = record {
-      place = omega arith;
-      offset = omega (arith, b.offset);
-      few_filled = b.few_filled;
-      passed = passed_more filled (omega arith) (omega arith);
-      slots = b.slots;
-      told = b.told;
-      others = b.others;
-    }
+  -- a record of a task that has its offset is passed
+  pub told_already : (r : Inversion) → r ≡ here → r.task + 1 ≤ filled → ToldBefore bytes n idles inversions offsets filled (j + 1)
+  told_already r is m =
+      let same : r.task ≡ here.task = ap (λ (q : Inversion). q.task) is in
+      record { few_filled = b.few_filled; passed = below_more _ j b.passed (omega arith); slots = b.slots; told = b.told; others = b.others }
+
+  -- the record's task is below n where every record's is
+  pub task_here : j < inversions → (r : Inversion) → r ≡ here → TasksBelow n (inversions_at bytes (inversions_offset n idles) inversions) → r.task < n
+  task_here l r is q = rw is (task_below bytes n (inversions_offset n idles) inversions j q l)
 
   -- at the end all tasks get EN's
-  module _ (ended : inversions ≤ j) (few : n ≤ limits.tasks) (after : List ℕ) (f : Filled offsets (λ (i : ℕ). at) filled n after)
+  module _ (ended : inversions ≤ j) (few : n ≤ limits.tasks) (value : ℕ) (value-is : value ≡ at) (after : List ℕ) (f : Filled offsets (λ (i : ℕ). value) filled n after)
       (ts : Set) (counted : length ts.tasks ≡ n) where
     -- the tables that stand in the image
     abbrev X : Tables
@@ -165,7 +154,7 @@ module _ {bytes : List ℕ} {n idles inversions : ℕ} {offsets : List ℕ} {fil
     slot_told i l =
         let same : told_offset bytes n idles inversions i ≡ inversion_offset ts X i =
         rw (counted, idles_length bytes (head_length_of n) idles) refl in
-        told_more n after f (λ p. absurd (omega arith)) i l
+        told_more value value-is n after f (λ p. absurd (omega arith)) i l
         ∙ same
         ∙ ap (inversion_offset ts X) (sym (zero-add i))
         ∙ sym (slot_first ts X 0 (length ts.tasks) i (replicate (limits.tasks - length ts.tasks) 0) (omega arith))

@@ -13,7 +13,8 @@ use Rattle.rules.specs.Tasks.{Set, task, jobs}
 use Rattle.rules.specs.Judging.{idle_in_range, inversion_in_range}
 use Rattle.rules.proofs.Cases.{by_le, both_true}
 use Rattle.rules.proofs.Arrays.{slot_element}
-use Rattle.sets.specs.Kept.{Rows, tasks_in, hyperperiod_in, jobs_in, slack_in, Keeps}
+use Rattle.sets.specs.declared.Kept.{Kept}
+use Rattle.sets.specs.Kept.{tasks_in, hyperperiod_in, jobs_in, slack_in, Keeps}
 
 module _ (h : ℕ) (r : Idle) where
   -- an ID without a length
@@ -32,7 +33,7 @@ module _ (h : ℕ) (r : Idle) where
       (λ q. le-ltb r.length (h - r.start) (omega arith) ∙ sym (le-ltb (r.start + r.length) h q))
       (λ q. lt-ltb r.length (h - r.start) (omega arith) ∙ sym (lt-ltb (r.start + r.length) h q)))
 
-module _ {ts : Set} {kept : Rows} (s : Keeps ts kept) (r : Inversion) where
+module _ {ts : Set} {kept : Kept} (s : Keeps ts kept) (r : Inversion) where
   -- the hyperperiod
   abbrev h : ℕ
   h = hyperperiod_in kept

@@ -9,8 +9,11 @@ use native.Mathlib.Omega.{arith}
 use lib.Dec.{eqb}
 use lib.Seq.{append_snoc}
 use lib.ListN.{length, get_or, set, length-append}
-use borrow.Author.Tests.{lt-ltb, le-ltb, eq-eqb, ne_eqb}
+use borrow.Author.Tests.{eq-eqb, ne_eqb}
+use Rattle.std.specs.Prelude.{Ok, Err}
+use Rattle.std.proofs.Common.{Fits, w8}
 use Rattle.fields.specs.Number.{Bytes}
+use Rattle.fields.proofs.Laws.{bytes_by_index}
 use Rattle.rules.specs.declared.Entry.{Entry}
 use Rattle.rules.specs.declared.Idle.{Idle}
 use Rattle.rules.specs.declared.Offsets.{Offsets as OffsetsOf}
@@ -22,7 +25,7 @@ use Rattle.rules.specs.Irregularities.{runs}
 use Rattle.rules.specs.Judging.{judge_tables}
 use Rattle.rules.specs.Offsets.{last_offset, Source, lent, past_own, standing, next_is, next_start}
 use Rattle.rules.specs.Dispatcher.{zeros}
-use Rattle.rules.proofs.Cases.{by_bool, by_eq, by_le, clash}
+use Rattle.rules.proofs.Cases.{by_bool, by_eq, clash}
 use Rattle.rules.proofs.Arrays.{slot_element}
 use Rattle.rules.proofs.GoodSets.{a_job}
 use Rattle.rules.proofs.PriorityLaws.{never_waits}
@@ -35,17 +38,21 @@ use Rattle.rules.proofs.OffsetReplay.{ReplaysAt, zeros_same}
 use Rattle.rules.proofs.WastedRecords.{Wastes, wastes_begin, start_wastes, start_inverts, start_without, judged_late}
 use Rattle.rules.proofs.KeptOffsets.{KeepsIdles, keeps_begin, keeps_along}
 use Rattle.decision.specs.declared.Found.{Found}
-use Rattle.decision.specs.declared.NextStart.{NextStart as Answer}
-use Rattle.decision.specs.declared.NextStart.TheVariants.{Starts, Stuck}
-use Rattle.sets.specs.Kept.{Rows, all_jobs_in}
+use Rattle.decision.specs.declared.Standing.{Standing}
+use Rattle.sets.specs.declared.Kept.{Kept}
+use Rattle.sets.specs.Kept.{all_jobs_in}
 use Rattle.decision.specs.declared.Front.{Front}
 use Rattle.decision.specs.Fits.{next_in, offsets_in}
 use Rattle.decision.specs.Next.{inverts, next_case, next_of, next_at, IdlesRead, none_left, one_more, AllRead}
 use Rattle.sets.proofs.SetKept.{kept_cycle}
 use Rattle.replay.specs.Runs.{wasted_after, Ends, as_entry, start_first, wasted_by, behind, front_behind, ends_of, AllReadIn, CanRun, CanReplay, cycle_start, cycle_front, cycle_of}
 use Rattle.replay.proofs.Stores.{start_stores}
-use Rattle.replay.proofs.Running.{ends_stuck, ends_last, ends_more}
+use Rattle.replay.proofs.Running.{by_answer, is_found, ends_stuck, ends_last, ends_more}
 use Rattle.replay.proofs.Walk.{WalkAt, WalkGoesOn, walk_begins, walk_all, walk_left, walk_readable, walk_starts}
+
+-- an image is lent as bytes
+pub image_bytes : (image : List ℕ) → ((i : ℕ) → Fits w8 (get_or image i 0)) → Bytes image
+image_bytes image known = bytes_by_index image (λ i. (known i).fits)
 
 -- where a run that found all starts of a cycle ended: next job numbers, free instant and tasks' offsets; replay of the tables stands there after
 -- these starts, with these records wasted, and all jobs have started
@@ -63,11 +70,6 @@ idles_come : {S : Source} {o : ℕ} {idles : List Idle} → ShowsIdles S o idles
 idles_come (no_idle e) = none_left e
 idles_come (an_idle e s) = one_more e (idles_come s)
 
--- an answer is a start, or stuck with a number
-pub by_answer : {A : Type 0} (a : Answer) → ((f : Found) → a ≡ Starts f → A) → ((number : ℕ) → a ≡ Stuck number → A) → A
-by_answer (Starts f) start stop = start f refl
-by_answer (Stuck number) start stop = stop number refl
-
 -- the least offset of a record without effect stays at a start without a record of its own
 wasted_stays : (wasted offset behind : ℕ) (b : Bool) → behind ≡ offset → wasted_after wasted offset behind b ≡ wasted
 unfolding wasted_after
@@ -81,9 +83,7 @@ wasted_kept wasted offset behind = by_bool (eqb behind offset) (λ b. rw b) (λ 
 -- at any other start it is that record's, if it is smaller
 wasted_falls : (wasted offset behind : ℕ) → (behind ≡ offset → ⊥) → wasted_after wasted offset behind false ≡ min wasted offset
 unfolding wasted_after
-wasted_falls wasted offset behind n =
-    rw (ne_eqb behind offset n)
-    (by_le wasted offset (λ l. rw (le-ltb offset wasted l) (omega arith)) (λ l. rw (lt-ltb offset wasted l) (omega arith)))
+wasted_falls wasted offset behind n = rw (ne_eqb behind offset n)
 
 -- the tables of a good set stand in the image, and replay stands after some starts with a job left
 module _ {bytes : List ℕ} {ts : Set} {X : Tables} {before : ℕ} (st : Stand bytes ts X before) (good : set_fault ts ≡ none) {σ : List Entry}
@@ -93,67 +93,53 @@ module _ {bytes : List ℕ} {ts : Set} {X : Tables} {before : ℕ} (st : Stand b
   abbrev own_end : ℕ → ℕ
   own_end i = past_own ((lent bytes ts).inversion_shown (slot offsets i)) i (slot next i) (slot offsets i)
 
-  -- a start that the rule book finds: the least offset of a record without effect
-  found_wastes : (i t o : ℕ) → next_start (setting ts) (lent bytes ts) (standing next free offsets idle) ≡ next_is i t o →
-      Wastes ts X (σ ++ (record { task = i; start = t } ∷ [])) (start_job next i)
-      (wasted_after wasted (slot offsets i) (own_end i) (inverts ts next t i))
-  found_wastes i t o q =
-      by_eq (own_end i) (slot offsets i)
-      (λ u. rw (wasted_stays wasted (slot offsets i) (own_end i) (inverts ts next t i) u) (start_without st good R W left i t o q u))
-      (λ u. by_bool (runs ((setting ts).baseline next t) i)
-      (λ b. rw (b, wasted_falls wasted (slot offsets i) (own_end i) u) (start_wastes st good R W left i t o q u b))
-      (λ b. rw (b, wasted_kept wasted (slot offsets i) (own_end i)) (start_inverts st good R W left i t o q b)))
-
-  -- a start that the code finds
-  wastes_on : (f : Found) → next_of ts bytes next free offsets idle ≡ Starts f →
+  -- a start that is found: the least offset of a record without effect
+  wastes_on : (f : Found) → next_of ts bytes next free offsets idle ≡ Ok f →
       Wastes ts X (σ ++ (as_entry f ∷ [])) (start_job next f.task) (wasted_after wasted (slot offsets f.task) f.inversion f.inverts)
   wastes_on f e =
-      by_next (next_start (setting ts) (lent bytes ts) (standing next free offsets idle))
-      (λ i t o q.
-      let is : next_case ts bytes next offsets (next_is i t o) ≡ Starts f = rw q at e in
-      let same : f ≡ record { task = i; start = t; idle = o; inversion = own_end i; inverts = inverts ts next t i } = cc in
-      rw same (found_wastes i t o q))
-      (λ m q. let other : Stuck m ≡ Starts f = rw q at e in clash (cc))
+      let is = is_found ts bytes next free offsets idle f e in
+      let i : ℕ = f.task in
+      rw (is.own, is.jumps)
+      (by_eq (own_end i) (slot offsets i)
+      (λ u. rw (wasted_stays wasted (slot offsets i) (own_end i) (inverts ts next f.start i) u) (start_without st good R W left i f.start f.idle is.next u))
+      (λ u. by_bool (runs ((setting ts).baseline next f.start) i)
+      (λ b. rw (b, wasted_falls wasted (slot offsets i) (own_end i) u) (start_wastes st good R W left i f.start f.idle is.next u b))
+      (λ b. rw (b, wasted_kept wasted (slot offsets i) (own_end i)) (start_inverts st good R W left i f.start f.idle is.next b))))
 
   -- the IDs used are the derived ones: the baseline never waits
-  keeps_on : KeepsIdles ts X σ next free idle idle → (f : Found) → next_of ts bytes next free offsets idle ≡ Starts f →
+  keeps_on : KeepsIdles ts X σ next free idle idle → (f : Found) → next_of ts bytes next free offsets idle ≡ Ok f →
       KeepsIdles ts X (σ ++ (as_entry f ∷ [])) (start_job next f.task) (f.start + (task ts f.task).time) f.idle f.idle
   keeps_on K f e =
-      by_next (next_start (setting ts) (lent bytes ts) (standing next free offsets idle))
-      (λ i t o q.
-      let is : next_case ts bytes next offsets (next_is i t o) ≡ Starts f = rw q at e in
-      let same : f ≡ record { task = i; start = t; idle = o; inversion = own_end i; inverts = inverts ts next t i } = cc in
-      rw same (keeps_along st good R K left i t o q (never_waits ts (hyperperiod ts)) refl))
-      (λ m q. let other : Stuck m ≡ Starts f = rw q at e in clash (cc))
+      keeps_along st good R K left f.task f.start f.idle (is_found ts bytes next free offsets idle f e).next (never_waits ts (hyperperiod ts)) refl
 
   -- a stuck answer: 18 at the number of starts
-  late_here : (number : ℕ) → next_of ts bytes next free offsets idle ≡ Stuck number → judge_tables ts X ≡ refuses (refusal 18 (length σ))
+  late_here : (number : ℕ) → next_of ts bytes next free offsets idle ≡ Err number → judge_tables ts X ≡ refuses (refusal 18 (length σ))
   late_here number e =
       by_next (next_start (setting ts) (lent bytes ts) (standing next free offsets idle))
-      (λ i t o q. let other : next_case ts bytes next offsets (next_is i t o) ≡ Stuck number = rw q at e in clash (cc))
+      (λ i t o q. let other : next_case ts bytes next offsets (next_is i t o) ≡ Err number = rw q at e in clash (cc))
       (λ m q. judged_late st good R left m q)
 
 -- where a run stands after some starts: the walk stands there, with these records wasted
-record PointAt (bytes : List ℕ) (ts : Set) (X : Tables) (kept : Rows) (σ : List Entry) (at : Rows) (front : Front) (wasted : ℕ) : Type 0 where
+record PointAt (bytes : List ℕ) (ts : Set) (X : Tables) (kept : Kept) (σ : List Entry) (at : Standing) (front : Front) (wasted : ℕ) : Type 0 where
   walk : WalkAt bytes ts X kept σ at front
   keeps : KeepsIdles ts X σ (next_in at) front.free front.idle front.idle
   wastes : Wastes ts X σ (next_in at) wasted
 
 -- what a run behind some starts comes to, with as many starts as jobs are left: the tables are refused, or all jobs have started
 record EndsSo (bytes : List ℕ) (ts : Set) (X : Tables) (σ : List Entry) (e : Ends) : Type 0 where
-  stuck : (number : ℕ) → e.last ≡ Stuck number → judge_tables ts X ≡ refuses (refusal 18 (length (σ ++ e.entries)))
-  done : (f : Found) → e.last ≡ Starts f → CycleDone bytes ts X (σ ++ e.entries) f.idle e.wasted
+  stuck : (number : ℕ) → e.last ≡ Err number → judge_tables ts X ≡ refuses (refusal 18 (length (σ ++ e.entries)))
+  done : (f : Found) → e.last ≡ Ok f → CycleDone bytes ts X (σ ++ e.entries) f.idle e.wasted
 
 -- such an end, by its last answer
 module _ {bytes : List ℕ} {ts : Set} {X : Tables} {σ : List Entry} where
   -- stuck at once
   stuck_so : (wasted number : ℕ) → judge_tables ts X ≡ refuses (refusal 18 (length σ)) →
-      EndsSo bytes ts X σ (record { entries = []; wasted = wasted; last = Stuck number })
+      EndsSo bytes ts X σ (record { entries = []; wasted = wasted; last = Err number })
   stuck_so wasted number r = record { stuck = λ m e. rw (append-nil σ) r; done = λ f e. clash (cc) }
 
   -- with a last start
   done_so : {wasted : ℕ} (f : Found) → CycleDone bytes ts X (σ ++ (as_entry f ∷ [])) f.idle wasted →
-      EndsSo bytes ts X σ (record { entries = as_entry f ∷ []; wasted = wasted; last = Starts f })
+      EndsSo bytes ts X σ (record { entries = as_entry f ∷ []; wasted = wasted; last = Ok f })
   done_so f d = record { stuck = λ number e. clash (cc); done = λ g e. let same : g ≡ f = cc in rw same d }
 
   -- with a start and others behind it
@@ -168,7 +154,7 @@ one_entry : (σ : List Entry) (f : Found) → length (σ ++ (as_entry f ∷ []))
 one_entry σ f = omega (arith, length-append σ (as_entry f ∷ []))
 
 -- an image that may be replayed
-module _ {ts : Set} {bytes : List ℕ} {kept : Rows} {first : OffsetsOf} (are-bytes : Bytes bytes) (can : CanReplay ts bytes kept first) where
+module _ {ts : Set} {bytes : List ℕ} {kept : Kept} {first : OffsetsOf} (are-bytes : Bytes bytes) (can : CanReplay ts bytes kept first) where
   -- its tables, and the jobs of its cycle
   abbrev X : Tables
   X = can.tables
@@ -181,11 +167,11 @@ module _ {ts : Set} {bytes : List ℕ} {kept : Rows} {first : OffsetsOf} (are-by
   cycle_stand = read_stand bytes ts X are-bytes can.read can.good can.records_good
 
   -- after some starts
-  abbrev At : List Entry → Rows → Front → ℕ → Type 0
+  abbrev At : List Entry → Standing → Front → ℕ → Type 0
   At σ at front wasted = PointAt bytes ts X kept σ at front wasted
 
   -- with all starts made, all jobs have started
-  point_done : {σ : List Entry} {at : Rows} {front : Front} {wasted : ℕ} → At σ at front wasted → all ≤ length σ →
+  point_done : {σ : List Entry} {at : Standing} {front : Front} {wasted : ℕ} → At σ at front wasted → all ≤ length σ →
       CycleDone bytes ts X σ front.idle wasted
   point_done {at = at} {front = front} a enough = record {
     next = next_in at;
@@ -197,7 +183,7 @@ module _ {ts : Set} {bytes : List ℕ} {kept : Rows} {first : OffsetsOf} (are-by
     all = walk_all cycle_stand a.walk enough;
   }
 
-  module _ {σ : List Entry} {at : Rows} {front : Front} {wasted : ℕ} (a : At σ at front wasted) where
+  module _ {σ : List Entry} {at : Standing} {front : Front} {wasted : ℕ} (a : At σ at front wasted) where
     -- all offsets can be read
     point_read : AllRead bytes ts kept at front.idle
     point_read = record { tasks_read = walk_readable cycle_stand a.walk; idles_read = idles_come a.walk.replays.idles_shown }
@@ -208,11 +194,11 @@ module _ {ts : Set} {bytes : List ℕ} {kept : Rows} {first : OffsetsOf} (are-by
       point_left = walk_left cycle_stand a.walk few
 
       -- the next start is stuck: 18 at the number of starts
-      point_stuck : (number : ℕ) → next_at ts bytes at front ≡ Stuck number → judge_tables ts X ≡ refuses (refusal 18 (length σ))
+      point_stuck : (number : ℕ) → next_at ts bytes at front ≡ Err number → judge_tables ts X ≡ refuses (refusal 18 (length σ))
       point_stuck = late_here cycle_stand can.good a.walk.replays a.wastes point_left
 
       -- behind the next start
-      point_on : (f : Found) → next_at ts bytes at front ≡ Starts f → At (σ ++ (as_entry f ∷ [])) (behind ts at f) (front_behind ts f) (wasted_by at wasted f)
+      point_on : (f : Found) → next_at ts bytes at front ≡ Ok f → At (σ ++ (as_entry f ∷ [])) (behind ts at f) (front_behind ts f) (wasted_by at wasted f)
       point_on f e =
           let i : ℕ = f.task in
           let w = a.walk in
@@ -234,7 +220,7 @@ module _ {ts : Set} {bytes : List ℕ} {kept : Rows} {first : OffsetsOf} (are-by
 
       -- and what more come to
       ends_on : (more : ℕ) →
-          ((f : Found) → next_at ts bytes at front ≡ Starts f →
+          ((f : Found) → next_at ts bytes at front ≡ Ok f →
           EndsSo bytes ts X (σ ++ (as_entry f ∷ [])) (ends_of ts bytes more (behind ts at f) (front_behind ts f) (wasted_by at wasted f))) →
           EndsSo bytes ts X σ (ends_of ts bytes (suc more) at front wasted)
       ends_on more later =
@@ -244,7 +230,7 @@ module _ {ts : Set} {bytes : List ℕ} {kept : Rows} {first : OffsetsOf} (are-by
           (λ m q. rw (ends_stuck ts bytes at front wasted (suc more) m q) (stuck_so wasted m (point_stuck m q)))
 
   -- with as many starts to come as jobs are left, all offsets can be read at each of these decisions
-  run_read : (more : ℕ) (σ : List Entry) (at : Rows) (front : Front) (wasted : ℕ) → At σ at front wasted → suc more + length σ ≡ all →
+  run_read : (more : ℕ) (σ : List Entry) (at : Standing) (front : Front) (wasted : ℕ) → At σ at front wasted → suc more + length σ ≡ all →
       AllReadIn ts bytes kept more at front
   unfolding AllReadIn
   run_read zero σ at front wasted a left = point_read a
@@ -255,7 +241,7 @@ module _ {ts : Set} {bytes : List ℕ} {kept : Rows} {first : OffsetsOf} (are-by
   )
 
   -- what the run comes to
-  run_ends : (more : ℕ) (σ : List Entry) (at : Rows) (front : Front) (wasted : ℕ) → At σ at front wasted → suc more + length σ ≡ all →
+  run_ends : (more : ℕ) (σ : List Entry) (at : Standing) (front : Front) (wasted : ℕ) → At σ at front wasted → suc more + length σ ≡ all →
       EndsSo bytes ts X σ (ends_of ts bytes more at front wasted)
   run_ends zero σ at front wasted a left = ends_here a (omega arith) (omega arith)
   run_ends (suc more) σ at front wasted a left =
@@ -285,7 +271,8 @@ module _ {ts : Set} {bytes : List ℕ} {kept : Rows} {first : OffsetsOf} (are-by
   cycle_can = record {
     stands = cycle_begins.walk.stands;
     slots = λ _. cycle_begins.walk.slots;
-    read = λ _. rw all_kept (run_read (all - 1) [] (cycle_start kept first) (cycle_front first) last_offset cycle_begins all_to_come);
+    read = λ _. subst (λ (n : ℕ). AllReadIn ts bytes kept (n - 1) (cycle_start kept first) (cycle_front first)) (sym all_kept)
+        (run_read (all - 1) [] (cycle_start kept first) (cycle_front first) last_offset cycle_begins all_to_come);
   }
 
   -- what the cycle comes to
@@ -293,11 +280,11 @@ module _ {ts : Set} {bytes : List ℕ} {kept : Rows} {first : OffsetsOf} (are-by
   cycle_ends = run_ends (all - 1) [] (cycle_start kept first) (cycle_front first) last_offset cycle_begins all_to_come
 
   -- a cycle that is stuck: the tables are refused with 18 at the number of starts
-  pub cycle_stuck : (number : ℕ) → (cycle_of ts bytes kept first).last ≡ Stuck number →
+  pub cycle_stuck : (number : ℕ) → (cycle_of ts bytes kept first).last ≡ Err number →
       judge_tables ts can.tables ≡ refuses (refusal 18 (length (cycle_of ts bytes kept first).entries))
   cycle_stuck = cycle_ends.stuck
 
   -- a cycle whose last start is found
-  pub cycle_done : (f : Found) → (cycle_of ts bytes kept first).last ≡ Starts f →
+  pub cycle_done : (f : Found) → (cycle_of ts bytes kept first).last ≡ Ok f →
       CycleDone bytes ts can.tables (cycle_of ts bytes kept first).entries f.idle (cycle_of ts bytes kept first).wasted
   cycle_done = cycle_ends.done

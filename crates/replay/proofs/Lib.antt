@@ -1,5 +1,4 @@
 pub mod Stores
-pub mod RowStores
 pub mod Running
 pub mod Walk
 pub mod Cycles

@@ -9,26 +9,21 @@ ghost use Rattle.decision.specs.Fits.{releases_in, Stands};
 ghost use Rattle.decision.specs.Next.{FindsNext};
 ghost use Rattle.replay.specs.Runs.{wasted_after, stepped, CanStep, PutsOn, run_from, Ran, CanRun, CanReplay, cycle_of};
 
-use decision::{Found, Front, LAST_OFFSET, NEXT, NextStart, OFFSETS, RELEASE};
+use decision::{Found, Front, LAST_OFFSET, Standing, Stuck};
 use images::ENTRY_SIZE;
 use rules::{Entry, Offsets};
-use sets::{ALL_JOBS, FIGURES, FIRST, PERIODS, TIMES};
+use sets::Kept;
 
 // The least offset of a record that had no effect, after a start from a task's offset to the one behind it: its own record, if that is where the
 // offset was, had none where no lower-numbered task was waiting.
+#[tactic(auto, unfolding(crate::specs::Runs::wasted_after))]
 fn wasted_after(wasted: u32, offset: u32, f: Found) -> u32
     ensures { result ≡ wasted_after wasted offset f.inversion f.inverts }
 {
-    if f.inversion == offset {
+    if f.inversion == offset || f.inverts {
         return wasted;
     }
-    if f.inverts {
-        return wasted;
-    }
-    if offset < wasted {
-        return offset;
-    }
-    wasted
+    wasted.min(offset)
 }
 
 // A start put into the output as an entry at a place, where that is inside; and the place behind it.
@@ -38,33 +33,28 @@ fn put_start(out: &mut [u8], place: usize, f: Found) -> usize
     if out.len() <= place {
         return place;
     }
-    writing::put_entry(
-        out,
-        place,
-        Entry {
-            task: f.task,
-            start: f.start,
-        },
-    );
+    let entry = Entry {
+        task: f.task,
+        start: f.start,
+    };
+    writing::put(out, place, entry);
     place + ENTRY_SIZE
 }
 
-// The rows behind a start: its task's next job is the one behind it, from its own offset on. And how far replay has come then: the processor is free when
+// Where replay stands behind a start: its task's next job is the one behind it, from its own offset on. And how far replay has come then: the processor is free when
 // the start's job ends, and idle records are looked for behind those it used.
-fn step(kept: &[[u32; 16]; 6], at: &mut [[u32; 16]; 3], f: Found) -> Front
+fn step(kept: &Kept, at: &mut Standing, f: Found) -> Front
     requires { CanStep kept.now at.old f }
     ensures rows { at.new ≡ stepped at.old f
         (get_or (releases_in at.old) f.task 0 + get_or (periods_in kept.now) f.task 0) }
     ensures front { result ≡ record { free = f.start + get_or (times_in kept.now) f.task 0; idle = f.idle } }
 {
     let i = f.task as usize;
-    let job = at[NEXT][i] + 1;
-    let release = at[RELEASE][i] + kept[PERIODS][i];
-    at[NEXT][i] = job;
-    at[RELEASE][i] = release;
-    at[OFFSETS][i] = f.inversion;
+    at.next[i] += 1;
+    at.release[i] += kept.periods[i];
+    at.offsets[i] = f.inversion;
     Front {
-        free: f.start + kept[TIMES][i],
+        free: f.start + kept.times[i],
         idle: f.idle,
     }
 }
@@ -75,14 +65,7 @@ fn step(kept: &[[u32; 16]; 6], at: &mut [[u32; 16]; 3], f: Found) -> Front
 pub struct Run {
     pub made: usize,
     pub wasted: u32,
-    pub last: NextStart,
-}
-
-// A run by its parts.
-fn ran(made: usize, wasted: u32, last: NextStart) -> Run
-    ensures { result ≡ record { made = made; wasted = wasted; last = last } }
-{
-    Run { made, wasted, last }
+    pub last: Result<Found, Stuck>,
 }
 
 // So many starts, and one at least, from where replay stands, up to the first that is not found. Each is put into the output as an entry, one behind the
@@ -90,8 +73,8 @@ fn ran(made: usize, wasted: u32, last: NextStart) -> Run
 fn starts(
     image: &[u8],
     judged: bool,
-    kept: &[[u32; 16]; 6],
-    at: &mut [[u32; 16]; 3],
+    kept: &Kept,
+    at: &mut Standing,
     from: Front,
     wanted: usize,
     out: &mut [u8],
@@ -104,54 +87,48 @@ fn starts(
     let mut wasted = LAST_OFFSET;
     let mut place: usize = 0;
     let mut made: usize = 0;
-    'starts: loop {
-        match decision::next_start(image, judged, kept, at, front) {
-            NextStart::Stuck(number) => {
-                break 'starts ran(made, wasted, NextStart::Stuck(number));
-            }
-            NextStart::Starts(f) => {
-                place = put_start(out, place, f);
-                wasted = wasted_after(wasted, at[OFFSETS][f.task as usize], f);
-                made += 1;
-                if wanted <= made {
-                    break 'starts ran(made, wasted, NextStart::Starts(f));
-                }
-                front = step(kept, at, f);
-            }
+    loop {
+        let last = decision::next_start(image, judged, kept, at, front);
+        let Ok(f) = last else {
+            return Run { made, wasted, last };
+        };
+        place = put_start(out, place, f);
+        wasted = wasted_after(wasted, at.offsets[f.task as usize], f);
+        made += 1;
+        if wanted <= made {
+            return Run { made, wasted, last };
         }
+        front = step(kept, at, f);
     }
 }
 
 // The next start, for records that nobody has judged.
-pub fn one_start(
-    image: &[u8],
-    kept: &[[u32; 16]; 6],
-    at: &mut [[u32; 16]; 3],
-    front: Front,
-) -> NextStart
+pub fn one_start(image: &[u8], kept: &Kept, at: &mut Standing, front: Front) -> Result<Found, Stuck>
     requires { (ts : Set) × Stands ts kept.now at.old front }
     ensures { FindsNext image.now kept.now at.old front result }
 {
-    let mut nowhere = [0u8; 0];
-    let run = starts(image, false, kept, at, front, 1, &mut nowhere);
-    run.last
+    starts(image, false, kept, at, front, 1, &mut []).last
 }
 
 // Replay through one cycle, as many starts as it has jobs, of an image whose records were judged. The entries are put into the output, one behind the
 // other, where they fit.
-pub fn cycle(image: &[u8], kept: &[[u32; 16]; 6], first: Offsets, out: &mut [u8]) -> Run
+pub fn cycle(image: &[u8], kept: &Kept, first: Offsets, out: &mut [u8]) -> Run
     requires { (ts : Set) × CanReplay ts image.now kept.now first }
     ensures { (ts : Set) → CanReplay ts image.now kept.now first →
         Ran (cycle_of ts image.now kept.now first) out.old result out.new }
 {
     let next = [0u32; 16];
-    let releases = kept[FIRST];
+    let release = kept.first;
     let offsets = first.inversions;
-    let mut begin = [next, releases, offsets];
+    let mut begin = Standing {
+        next,
+        release,
+        offsets,
+    };
     let front = Front {
         free: 0,
         idle: first.idle,
     };
-    let all = kept[FIGURES][ALL_JOBS] as usize;
+    let all = kept.all_jobs as usize;
     starts(image, true, kept, &mut begin, front, all, out)
 }

@@ -6,16 +6,16 @@ use native.Mathlib.Numerals.{add-one}
 use native.Mathlib.Omega.{arith}
 use lib.Dec.{ltb}
 use lib.ListN.{length, take, drop, length-take, length-drop}
-use lib.Seq.{length-take-le, take-add, drop_at, drop-drop}
+use lib.Seq.{length-take-le, take-add, drop_at, drop-drop, take_at}
 use borrow.Author.Tests.{lt-ltb, le-ltb}
+use Rattle.std.specs.Prelude.{Ok}
+use Rattle.std.specs.List.{copy_within}
 use Rattle.rules.proofs.Cases.{by_le}
-use Rattle.reporting.specs.Report.{waits, goes_on, most_images, turn}
+use Rattle.standard.specs.Calls.{ReadBehind}
+use Rattle.reporting.specs.Report.{goes_on, most_images, turn}
 use Rattle.reporting.proofs.NoFurther.{Goes}
 use Rattle.report.specs.declared.Stand.{Stand}
-use Rattle.report.specs.declared.Next.{Next}
-use Rattle.report.specs.declared.Next.TheVariants as next_case
-use Rattle.report.specs.Stands.{between, Kept, held_in, Stands, CanRead, Ahead, ReadOn, after_image, PassedOn, Driven, reads, passes}
-use Rattle.report.specs.Stands.{Reads, Passes, Drives}
+use Rattle.report.specs.Stands.{between, held_in, Stands, CanRead, Ahead, ReadOn, after_image, PassedOn, Driven, reads, passes}
 
 -- bytes from one place to another, without the first of them
 rest_held : (begin end used : ℕ) (bytes : List ℕ) → begin + used ≤ end → end ≤ length bytes →
@@ -34,11 +34,6 @@ module _ {s : Stand} {buffer : List ℕ} (w : Stands s buffer) where
   -- so many bytes are held
   pub many_held : length (held_in s buffer) ≡ s.end - s.begin
   many_held = rw (length-take, length-drop) (omega (arith, w.inside))
-
-  -- where a turn waits, a read is its turn of the drive
-  pub read_drives : turn (held_in s buffer) s.more s.images ≡ waits → (r : Next) (new : List ℕ) → Reads s buffer r new → Drives s buffer r new
-  read_drives e (next_case.On t) new d = reads e d
-  read_drives e next_case.Ended new d = tt
 
   -- an image among them has its bytes there, and is not one too many
   module _ (used : ℕ) (g : Goes (held_in s buffer) s.images used) where
@@ -60,10 +55,9 @@ module _ {s : Stand} {buffer : List ℕ} (w : Stands s buffer) where
     }
 
     -- passing it is a turn of the drive
-    pub image_drives : {text : List ℕ} → turn (held_in s buffer) s.more s.images ≡ goes_on text used → (r : Next) → Passes s used r →
-        Drives s buffer r buffer
-    image_drives e (next_case.On t) is = rw is (passes e image_passed)
-    image_drives e next_case.Ended is = tt
+    pub image_drives : {text : List ℕ} → turn (held_in s buffer) s.more s.images ≡ goes_on text used → {t : Stand} → t ≡ after_image s used →
+        Driven s buffer t buffer
+    image_drives e is = rw is (passes e image_passed)
 
 -- whether bytes came
 came : (held n : ℕ) (bytes : List ℕ) → held ≤ n → n ≤ length bytes → ltb held n ≡ ltb 0 (length (between held n bytes))
@@ -72,31 +66,31 @@ came held n bytes l k =
     by_le (suc held) n (λ more. lt-ltb held n more ∙ sym (lt-ltb 0 (length (between held n bytes)) (omega arith)))
     (λ none. le-ltb held n (omega arith) ∙ sym (le-ltb 0 (length (between held n bytes)) (omega arith)))
 
--- with what was read: bytes more, or the end
-pub read_on : {s : Stand} {old moved : List ℕ} (w : CanRead s old) → Kept s.begin s.end old moved → (new : List ℕ) (n : ℕ) → length new ≡ length old →
-    take (s.end - s.begin) new ≡ take (s.end - s.begin) moved → s.end - s.begin ≤ n → n ≤ length new →
+-- with what was read behind the bytes at the front of the buffer: bytes more, or the end
+pub read_on : {s : Stand} {old : List ℕ} (w : CanRead s old) {moved : List ℕ} → moved ≡ copy_within old s.begin s.end 0 → {new : List ℕ} (n : ℕ) →
+    length new ≡ length old → ReadBehind (s.end - s.begin) moved (Ok n) new →
     ReadOn s old (record { begin = 0; end = n; more = ltb (s.end - s.begin) n; images = s.images }) new
-read_on {s} {old} {moved} w m new n same kept l k =
+read_on {s} {old} w {moved} is {new} n same read =
     let held = s.end - s.begin in
     let known = w.stands in
+    let behind = read.inside in
     let all : n - 0 ≡ held + (n - held) = omega arith in
+    let front : take held new ≡ held_in s old =
+    read.kept ∙ ap (take held) is ∙ take_at (held_in s old) (drop (0 + held) old) held (many_held known) in
     record {
       ahead = record {
-        stands = record { in_order = omega arith; inside = k; long = same ∙ known.long; few = known.few };
+        stands = record { in_order = omega arith; inside = behind.1; long = same ∙ known.long; few = known.few };
         less =
             by_le (suc held) n (λ more. rw (lt-ltb held n more, w.can_come) (omega (arith, known.long, w.has_room)))
             (λ none. rw (le-ltb held n (omega arith), w.can_come) (omega (arith, known.long, w.has_room)));
       };
       piece = between held n new;
-      held = ap (λ (k : ℕ). take k new) all ∙ take-add held (n - held) new ∙ ap (λ (front : List ℕ). front ++ between held n new) (kept ∙ m.moved);
-      more = came held n new l k;
+      held = ap (λ (k : ℕ). take k new) all ∙ take-add held (n - held) new ∙ ap (λ (front : List ℕ). front ++ between held n new) front;
+      more = came held n new behind.0 behind.1;
       images = refl;
     }
 
 -- each turn of the drive leaves less
-driven_ahead : {s : Stand} {old : List ℕ} {t : Stand} {new : List ℕ} → Driven s old t new → Ahead s t new
+pub driven_ahead : {s : Stand} {old : List ℕ} {t : Stand} {new : List ℕ} → Driven s old t new → Ahead s t new
 driven_ahead (reads e d) = d.ahead
 driven_ahead (passes e d) = d.ahead
-
-pub drives_ahead : (s : Stand) (old : List ℕ) {r : Next} (new : List ℕ) {t : Stand} → r ≡ next_case.On t → Drives s old r new → Ahead s t new
-drives_ahead s old new e d = driven_ahead {old = old} (rw e at d)

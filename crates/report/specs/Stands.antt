@@ -1,19 +1,15 @@
 -- Where the report stands in its buffer, what one turn leaves of that, and what bounds the turns that are left. Which bytes are read, and that the text was
 -- written, no contract can say. Assumes nothing.
-use Rattle.std.specs.Prelude.{◌≡◌, true, List, ◌++◌, ℕ, suc, ◌+◌, ◌-◌, ◌*◌, ◌≤◌, ◌<◌, ltb, length, take, drop}
+use Rattle.std.specs.Prelude.{◌≡◌, true, List, ◌++◌, ℕ, suc, ◌+◌, ◌-◌, ◌*◌, ◌≤◌, ◌<◌, ltb, length, take, drop, Option, Some, None, Result, Ok, Err}
 use Rattle.rules.specs.Timetable.{pick}
 use Rattle.text.specs.Text.{longest_input}
 use Rattle.reporting.specs.Report.{waits, goes_on, most_images, turn}
 use Rattle.report.specs.declared.Stand.{Stand}
-use Rattle.report.specs.declared.Next.{Next}
-use Rattle.report.specs.declared.Next.TheVariants as next_case
+use Rattle.report.specs.declared.Failure.{Failure}
 
--- the bytes from one place to another, and those bytes moved to the front of a buffer
+-- the bytes from one place to another
 abbrev pub between : ℕ → ℕ → List ℕ → List ℕ
 between begin end buffer = take (end - begin) (drop begin buffer)
-
-pub record Kept (begin end : ℕ) (old new : List ℕ) : Type 0 where
-  pub moved : take (end - begin) new ≡ between begin end old
 
 -- the bytes that are held
 abbrev pub held_in : Stand → List ℕ → List ℕ
@@ -65,14 +61,15 @@ pub data Driven (s : Stand) (old : List ℕ) (t : Stand) (new : List ℕ) : Type
   passes : {text : List ℕ} {used : ℕ} → turn (held_in s old) s.more s.images ≡ goes_on text used → PassedOn s old used t new → Driven s old t new
 
 -- what each function leaves where the report goes on
-abbrev pub Reads : Stand → List ℕ → Next → List ℕ → Type 0
-Reads s old (next_case.On t) new = ReadOn s old t new
-Reads s old next_case.Ended new = Unit {0}
+abbrev pub Reads : Stand → List ℕ → Result Stand Failure → List ℕ → Type 0
+Reads s old (Ok t) new = ReadOn s old t new
+Reads s old (Err failure) new = Unit {0}
 
-abbrev pub Passes : Stand → ℕ → Next → Type 0
-Passes s used (next_case.On t) = t ≡ after_image s used
-Passes s used next_case.Ended = Unit {0}
+abbrev pub Passes : Stand → ℕ → Result Stand Failure → Type 0
+Passes s used (Ok t) = t ≡ after_image s used
+Passes s used (Err failure) = Unit {0}
 
-abbrev pub Drives : Stand → List ℕ → Next → List ℕ → Type 0
-Drives s old (next_case.On t) new = Driven s old t new
-Drives s old next_case.Ended new = Unit {0}
+abbrev pub Drives : Stand → List ℕ → Result (Option Stand) Failure → List ℕ → Type 0
+Drives s old (Ok (Some t)) new = Driven s old t new
+Drives s old (Ok None) new = Unit {0}
+Drives s old (Err failure) new = Unit {0}

@@ -5,10 +5,11 @@
 ghost use Rattle.std.specs.Prelude.{◌+◌, ◌≤◌, ◌<◌, length};
 ghost use Rattle.reporting.specs.Report.{most_images};
 ghost use Rattle.reporting.specs.Turns.{room};
-ghost use Rattle.report.specs.Stands.{Kept, Stands, CanRead, Reads, Passes, Drives};
+ghost use Rattle.report.specs.Stands.{Stands, CanRead, Reads, Passes, Drives};
 
 use reporting::{ROOM, TurnAnswer};
-use standard::{Input, Streams};
+use standard::{Streams, Unfinished};
+use std::io;
 use std::io::{Read, Write};
 use text::LONGEST_INPUT;
 
@@ -21,112 +22,93 @@ struct Stand {
     images: u32,
 }
 
-// Whether the report goes on, and from where.
+// What breaks a report off: a read or a write that failed.
 #[derive(Clone, Copy)]
-enum Next {
-    On(Stand),
-    Ended,
+enum Failure {
+    Input(io::Error),
+    Output(io::Error),
 }
 
-// Moves the bytes from `begin` to `end` to the front of the buffer.
-fn keep(buffer: &mut [u8], begin: usize, end: usize)
-    requires { (begin ≤ end) × (end ≤ length buffer.old) }
-    ensures { Kept begin end buffer.old buffer.new }
-{
-    let held = end - begin;
-    let mut i: usize = 0;
-    while i < held {
-        buffer[i] = buffer[begin + i];
-        i += 1;
+impl From<io::Error> for Failure {
+    fn from(error: io::Error) -> Failure {
+        Failure::Input(error)
     }
 }
 
-// One read behind the bytes that are held. Where no more are held then, the input has ended.
-fn read_more<R: Read, W, E: Write>(
+impl From<Unfinished> for Failure {
+    fn from(unfinished: Unfinished) -> Failure {
+        Failure::Output(unfinished.error)
+    }
+}
+
+// One read behind the bytes that are held, which are moved to the front of the buffer. Where no more are held then, the input has ended.
+fn read_more<R: Read, W, E>(
     streams: &mut Streams<R, W, E>,
     buffer: &mut [u8],
     s: Stand,
-) -> Next
+) -> Result<Stand, Failure>
     requires { CanRead s buffer.old }
     ensures { Reads s buffer.old result buffer.new }
 {
-    let begin = s.begin;
-    let end = s.end;
-    keep(buffer, begin, end);
-    let held = end - begin;
-    match standard::read_behind(streams, buffer, held) {
-        Input::Held(n) => Next::On(Stand {
-            begin: 0,
-            end: n,
-            more: held < n,
-            images: s.images,
-        }),
-        Input::Failed => {
-            standard::fail(streams, b"report: standard input");
-            Next::Ended
-        }
-    }
-}
-
-// Writes a text, and answers whether all of it was taken.
-fn write<R, W: Write, E: Write>(streams: &mut Streams<R, W, E>, text: &[u8]) -> bool {
-    if standard::write_text(streams, text) < text.len() {
-        standard::fail(streams, b"report: standard output");
-        return false;
-    }
-    true
+    let held = s.end - s.begin;
+    buffer.copy_within(s.begin..s.end, 0);
+    let end = streams.read_behind(buffer, held)?;
+    Ok(Stand {
+        begin: 0,
+        end,
+        more: held < end,
+        images: s.images,
+    })
 }
 
 // An image's lines, and the bytes behind it.
-fn go_on<R, W: Write, E: Write>(
+fn go_on<R, W: Write, E>(
     streams: &mut Streams<R, W, E>,
     text: &[u8],
     s: Stand,
     used: usize,
-) -> Next
+) -> Result<Stand, Failure>
     requires inside { s.begin + used ≤ s.end }
     requires few { s.images < most_images }
     ensures { Passes s used result }
 {
-    if write(streams, text) {
-        return Next::On(Stand {
-            begin: s.begin + used,
-            end: s.end,
-            more: s.more,
-            images: s.images + 1,
-        });
-    }
-    Next::Ended
+    streams.write_text(text)?;
+    Ok(Stand {
+        begin: s.begin + used,
+        images: s.images + 1,
+        ..s
+    })
 }
 
-// A turn over the bytes that are held.
-fn step<R: Read, W: Write, E: Write>(
+// A turn over the bytes that are held. Where the report has ended, it stands nowhere.
+fn step<R: Read, W: Write, E>(
     streams: &mut Streams<R, W, E>,
     buffer: &mut [u8],
     text: &mut [u8],
     s: Stand,
-) -> Next
+) -> Result<Option<Stand>, Failure>
     requires stands { Stands s buffer.old }
     requires room { room ≤ length text.old }
     ensures { Drives s buffer.old result buffer.new }
 {
-    let begin = s.begin;
-    let end = s.end;
-    match reporting::turn(&buffer[begin..end], s.more, s.images, text) {
-        TurnAnswer::Waits => read_more(streams, buffer, s),
+    match reporting::turn(&buffer[s.begin..s.end], s.more, s.images, text) {
+        TurnAnswer::Waits => {
+            let next = read_more(streams, buffer, s)?;
+            Ok(Some(next))
+        }
         TurnAnswer::GoesOn(told) => {
-            let many = told.text;
-            go_on(streams, &text[..many], s, told.used)
+            let next = go_on(streams, &text[..told.text], s, told.used)?;
+            Ok(Some(next))
         }
         TurnAnswer::Stops(many) => {
-            write(streams, &text[..many]);
-            Next::Ended
+            streams.write_text(&text[..many])?;
+            Ok(None)
         }
     }
 }
 
-fn main(rt: HostRuntime) {
-    let mut streams = Streams::new(rt.stdin(), rt.stdout(), rt.stderr());
+// Turn after turn, to the end of the report.
+fn report<R: Read, W: Write, E>(streams: &mut Streams<R, W, E>) -> Result<(), Failure> {
     let mut buffer = [0u8; LONGEST_INPUT + 1];
     let mut text = [0u8; ROOM];
     let mut s = Stand {
@@ -135,14 +117,17 @@ fn main(rt: HostRuntime) {
         more: true,
         images: 0,
     };
-    loop {
-        match step(&mut streams, &mut buffer, &mut text, s) {
-            Next::On(next) => {
-                s = next;
-            }
-            Next::Ended => {
-                return;
-            }
-        }
+    while let Some(next) = step(streams, &mut buffer, &mut text, s)? {
+        s = next;
+    }
+    Ok(())
+}
+
+fn main(rt: HostRuntime) {
+    let mut streams = Streams::new(rt.stdin(), rt.stdout(), rt.stderr());
+    match report(&mut streams) {
+        Ok(()) => {}
+        Err(Failure::Input(error)) => streams.fail(b"report: standard input", &error),
+        Err(Failure::Output(error)) => streams.fail(b"report: standard output", &error),
     }
 }

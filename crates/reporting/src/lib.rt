@@ -6,8 +6,8 @@ ghost use Rattle.text.specs.Puts.{AtFront};
 ghost use Rattle.reporting.specs.Report.{figure_lines, image_turn, turn};
 ghost use Rattle.reporting.specs.Turns.{longest_line, room, Leaves, RefusedSo, Turned};
 
-use rules::{AxisAnswer, Located};
-use text::LONGEST_INPUT;
+use rules::Located;
+use text::{LONGEST_INPUT, Page};
 
 // What is told of an image: the length of its lines, and its bytes.
 #[derive(Clone, Copy)]
@@ -44,13 +44,11 @@ fn put_figures(figures: &[i64], out: &mut [u8]) -> usize
     requires { length figures.now * longest_line ≤ length out.old }
     ensures { AtFront (figure_lines figures.now) out.old result out.new }
 {
-    let mut at: usize = 0;
-    let mut i: usize = 0;
-    while i < figures.len() {
-        at = text::put_signed(out, at, figures[i], b'\n');
-        i += 1;
+    let mut page = Page::new(out);
+    for z in figures {
+        page.signed(*z, b'\n');
     }
-    at
+    page.len()
 }
 
 // Where no bytes are held.
@@ -91,14 +89,11 @@ fn of_image(bytes: &[u8], more: bool, beyond: bool, out: &mut [u8]) -> TurnAnswe
 {
     let mut figures = [0i64; MOST_FIGURES];
     match figures::measure(bytes, &mut figures) {
-        AxisAnswer::Refused(r) => refused(r, more, beyond, out),
-        AxisAnswer::Measured(a) => {
+        Err(r) => refused(r, more, beyond, out),
+        Ok(a) => {
             let many = a.figures;
             let text = put_figures(&figures[..many], out);
-            TurnAnswer::GoesOn(Told {
-                text: text,
-                used: a.used,
-            })
+            TurnAnswer::GoesOn(Told { text, used: a.used })
         }
     }
 }
@@ -112,14 +107,12 @@ pub fn turn(held: &[u8], more: bool, images: u32, out: &mut [u8]) -> TurnAnswer
     if out.len() < ROOM {
         return TurnAnswer::Stops(0);
     }
-    if held.len() == 0 {
+    if held.is_empty() {
         return none_held(more, images, out);
     }
     if images == MOST_IMAGES {
         return TurnAnswer::Stops(text::put_too_long(out));
     }
-    if held.len() > LONGEST_INPUT {
-        return of_image(&held[..LONGEST_INPUT], more, true, out);
-    }
-    of_image(held, more, false, out)
+    let many = LONGEST_INPUT.min(held.len());
+    of_image(&held[..many], more, LONGEST_INPUT < held.len(), out)
 }

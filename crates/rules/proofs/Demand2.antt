@@ -11,9 +11,8 @@ use lib.Seq.{take_at}
 use borrow.Author.Tests.{le-leb}
 use Rattle.fields.specs.Number.{Bytes}
 use Rattle.rules.specs.declared.Entry.{Entry}
-use Rattle.rules.specs.declared.CheckAnswer.TheVariants.{Accepted}
-use Rattle.rules.specs.declared.MakeAnswer.TheVariants.{Made}
-use Rattle.rules.specs.Refusals.{Judged, gives, refuses, first, unless}
+use Rattle.std.specs.Prelude.{Ok}
+use Rattle.rules.specs.Refusals.{Judged, gives, first, unless}
 use Rattle.rules.specs.Tasks.{Set, GoodSet, hyperperiod, set_fault}
 use Rattle.rules.specs.Timetable.{ValidTimetable}
 use Rattle.rules.specs.Setting.{Tables}
@@ -22,7 +21,8 @@ use Rattle.rules.specs.Judging.{timetable_fault, tables, judge_timetable, judge_
 use Rattle.rules.specs.Image.{timetable_image, table_image}
 use Rattle.rules.specs.Operations.{Timed, Tabled, read_timetable, read_tables, derive_from, rebuild_from, derived, rebuilt, check_answer, check_timetable, check_tables, into, write_tables, write_timetable, derived_image, rebuilt_image, make_answer, output_after, derive, derive_output, rebuild, rebuild_output}
 use Rattle.rules.specs.Promised.{TimetableImage, TableImage}
-use Rattle.rules.proofs.Cases.{clash, first_none, none_first, or_else_gives, or_else_none, then_gives, gives_in}
+use Rattle.rules.proofs.Cases.{first_none, none_first, or_else_gives, or_else_none, then_gives, gives_in}
+use Rattle.rules.proofs.Locations.{answered_gives}
 use Rattle.rules.proofs.Theory.{ValidFrom}
 use Rattle.rules.proofs.JudgedTables.{timetable_judged, derived_judged}
 use Rattle.rules.proofs.GoodSets.{good_set, set_good}
@@ -120,11 +120,6 @@ one_timetable_behind {bytes} {ts} {us} {τ} {σ} t u =
     let same : one ≡ other = gives_in one other (sym (rebuilds t) ∙ rebuilds u) in
     (ap (λ (i : Timed). i.set) same, ap (λ (i : Timed). i.entries) same)
 
--- what plain checking accepts has been judged
-accepted_gives : {A B : Type 0} (bytes : List ℕ) (z : Judged A) → check_answer bytes z ≡ Accepted → ((a : A) → z ≡ gives a → B) → B
-accepted_gives bytes (gives a) e go = go a refl
-accepted_gives bytes (refuses r) e go = clash (cc)
-
 module _ (bytes : List ℕ) (b : Bytes bytes) where
   -- bytes from which tables are derived are a timetable image
   derived_of : (i : Tabled) → derived bytes ≡ gives i → (ts : Set) × (τ : List Entry) × TimetableImage bytes ts τ
@@ -156,14 +151,14 @@ module _ (bytes : List ℕ) (b : Bytes bytes) where
       )))
 
   -- a timetable image is accepted exactly when it is that of a good set and a valid timetable
-  pub accepts_timetable : (check_timetable bytes ≡ Accepted) ↔ ((ts : Set) × (τ : List Entry) × TimetableImage bytes ts τ)
+  pub accepts_timetable : (check_timetable bytes ≡ Ok tt) ↔ ((ts : Set) × (τ : List Entry) × TimetableImage bytes ts τ)
   unfolding check_timetable
-  accepts_timetable = (λ e. accepted_gives bytes (derived bytes) e derived_of, λ w. ap (check_answer bytes) (derives w.2))
+  accepts_timetable = (λ e. let g = answered_gives _ bytes (derived bytes) tt e in derived_of g.0 g.1, λ w. ap (check_answer bytes) (derives w.2))
 
   -- a table image is accepted exactly when it is that of a good set and of the tables of a valid timetable
-  pub accepts_tables : (check_tables bytes ≡ Accepted) ↔ ((ts : Set) × (τ : List Entry) × TableImage bytes ts τ)
+  pub accepts_tables : (check_tables bytes ≡ Ok tt) ↔ ((ts : Set) × (τ : List Entry) × TableImage bytes ts τ)
   unfolding check_tables
-  accepts_tables = (λ e. accepted_gives bytes (rebuilt bytes) e rebuilt_of, λ w. ap (check_answer bytes) (rebuilds w.2))
+  accepts_tables = (λ e. let g = answered_gives _ bytes (rebuilt bytes) tt e in rebuilt_of g.0 g.1, λ w. ap (check_answer bytes) (rebuilds w.2))
 
 -- what an output takes is the whole result
 into_gives : (room : ℕ) (bytes result : List ℕ) → into room bytes ≡ gives result → result ≡ bytes
@@ -174,19 +169,18 @@ pub into_fits : (room : ℕ) (bytes : List ℕ) → length bytes ≤ room → in
 into_fits room bytes l = rw (le-leb (length bytes) room l)
 
 -- an answer with a length: there is a result, and the front of the output is that result
-made_gives : (bytes : List ℕ) (z : Judged (List ℕ)) (old : List ℕ) (n : ℕ) → make_answer bytes z ≡ Made n →
+made_gives : (bytes : List ℕ) (z : Judged (List ℕ)) (old : List ℕ) (n : ℕ) → make_answer bytes z ≡ Ok n →
     (result : List ℕ) × (z ≡ gives result) × (take n (output_after z old) ≡ result)
-made_gives bytes (gives result) old n e = (result, refl, take_at result _ n (cc))
-made_gives bytes (refuses r) old n e = clash (cc)
+made_gives bytes z old n e = let g = answered_gives _ bytes z n e in (g.0, g.1, ap (λ y. take n (output_after y old)) g.1 ∙ take_at g.0 _ n g.2)
 
 -- where there is a result, its length is answered, and it fills the front of the output
 pub gives_made : (bytes : List ℕ) (z : Judged (List ℕ)) (result out : List ℕ) → z ≡ gives result →
-    (make_answer bytes z ≡ Made (length result)) × (output_after z out ≡ result ++ drop (length result) out)
+    (make_answer bytes z ≡ Ok (length result)) × (output_after z out ≡ result ++ drop (length result) out)
 gives_made bytes z result out e = (rw e, rw e)
 
 module _ (bytes old : List ℕ) (n : ℕ) (b : Bytes bytes) where
   -- where deriving answers with a length, the bytes are a timetable image, and the front of the output is that of its tables
-  pub derive_made : derive bytes old ≡ Made n → (ts : Set) × (τ : List Entry) × TimetableImage bytes ts τ × (take n (derive_output bytes old) ≡ table_image ts (tables ts τ))
+  pub derive_made : derive bytes old ≡ Ok n → (ts : Set) × (τ : List Entry) × TimetableImage bytes ts τ × (take n (derive_output bytes old) ≡ table_image ts (tables ts τ))
   unfolding derive derive_output
   derive_made e =
       let m = made_gives bytes (derived_image (length old) bytes) old n e in
@@ -195,7 +189,7 @@ module _ (bytes old : List ℕ) (n : ℕ) (b : Bytes bytes) where
       (w.0, w.1, w.2, m.2 ∙ into_gives (length old) _ m.0 (sym (derives_image w.2 (length old)) ∙ m.1)))
 
   -- where rebuilding answers with a length, the bytes are a table image, and the front of the output is that of the timetable behind it
-  pub rebuild_made : rebuild bytes old ≡ Made n → (ts : Set) × (τ : List Entry) × TableImage bytes ts τ × (take n (rebuild_output bytes old) ≡ timetable_image ts τ)
+  pub rebuild_made : rebuild bytes old ≡ Ok n → (ts : Set) × (τ : List Entry) × TableImage bytes ts τ × (take n (rebuild_output bytes old) ≡ timetable_image ts τ)
   unfolding rebuild rebuild_output
   rebuild_made e =
       let m = made_gives bytes (rebuilt_image (length old) bytes) old n e in
@@ -204,8 +198,8 @@ module _ (bytes old : List ℕ) (n : ℕ) (b : Bytes bytes) where
       (w.0, w.1, w.2, m.2 ∙ into_gives (length old) _ m.0 (sym (rebuilds_image w.2 (length old)) ∙ m.1)))
 
   -- rebuilding what was derived gives the bytes again
-  pub rebuild_after_derive : derive bytes old ≡ Made n → (out : List ℕ) → length bytes ≤ length out →
-      (rebuild (take n (derive_output bytes old)) out ≡ Made (length bytes))
+  pub rebuild_after_derive : derive bytes old ≡ Ok n → (out : List ℕ) → length bytes ≤ length out →
+      (rebuild (take n (derive_output bytes old)) out ≡ Ok (length bytes))
       × (rebuild_output (take n (derive_output bytes old)) out ≡ bytes ++ drop (length bytes) out)
   unfolding rebuild rebuild_output
   rebuild_after_derive e out l =
@@ -215,8 +209,8 @@ module _ (bytes old : List ℕ) (n : ℕ) (b : Bytes bytes) where
       (rebuilds_image (image_of_tables w.2) (length out) ∙ ap (into (length out)) (sym w.2.is) ∙ into_fits (length out) bytes l))
 
   -- and deriving from what was rebuilt
-  pub derive_after_rebuild : rebuild bytes old ≡ Made n → (out : List ℕ) → length bytes ≤ length out →
-      (derive (take n (rebuild_output bytes old)) out ≡ Made (length bytes))
+  pub derive_after_rebuild : rebuild bytes old ≡ Ok n → (out : List ℕ) → length bytes ≤ length out →
+      (derive (take n (rebuild_output bytes old)) out ≡ Ok (length bytes))
       × (derive_output (take n (rebuild_output bytes old)) out ≡ bytes ++ drop (length bytes) out)
   unfolding derive derive_output
   derive_after_rebuild e out l =

@@ -7,10 +7,10 @@ use native.Mathlib.Omega.{arith}
 use lib.ListN.{length}
 use Rattle.fields.specs.Number.{Bytes}
 use Rattle.rules.specs.declared.Entry.{Entry}
-use Rattle.rules.specs.declared.Start.{Start as StartOf}
-use Rattle.rules.specs.declared.StartAnswer.{StartAnswer}
-use Rattle.rules.specs.declared.StartAnswer.TheVariants.{Start}
+use Rattle.rules.specs.declared.Start.{Start}
 use Rattle.rules.specs.declared.Dispatcher.{Dispatcher as State}
+use Rattle.std.specs.Prelude.{Result, Ok}
+use Rattle.rules.specs.declared.Located.{Located}
 use Rattle.rules.specs.Refusals.{gives, refusal}
 use Rattle.rules.specs.Tasks.{Set, task, release, due, all_jobs, hyperperiod}
 use Rattle.rules.specs.Timetable.{entry_at, job_at, end_at}
@@ -40,7 +40,7 @@ module _ (bytes : List ℕ) (are-bytes : Bytes bytes) (ts : Set) (τ : List Entr
   its_service = let given = given_tables bytes ts τ accepted in served ts its_tables τ given.2 bytes are-bytes given.1
 
   -- after k honest ends entry r of cycle c is served, for k = c · length + r
-  serves_at : {k : ℕ} {a : StartAnswer} {d : State} → Log bytes ts k a d → (c r : ℕ) → k ≡ c * length τ + r → r < length τ → c ≤ last_cycle →
+  serves_at : {k : ℕ} {a : Result Start Located} {d : State} → Log bytes ts k a d → (c r : ℕ) → k ≡ c * length τ + r → r < length τ → c ≤ last_cycle →
       ServedTo bytes ts its_tables τ its_service c r a d
   unfolding its_tables
   serves_at = let given = given_tables bytes ts τ accepted in logged bytes ts its_tables τ its_service (begins ts its_tables τ given.2 bytes are-bytes given.1)
@@ -62,23 +62,23 @@ module _ (bytes : List ℕ) (are-bytes : Bytes bytes) (ts : Set) (τ : List Entr
   a_cycle k lt = omega (arith, (div-lt_iff_lt-mul {k = length τ} {x = k} {y = 4294967296} at_least_one).1 (omega arith))
 
   -- entry k mod length of cycle k / length
-  abbrev nth_start : ℕ → StartOf
+  abbrev nth_start : ℕ → Start
   nth_start k = start_of (hyperperiod ts) τ (k / length τ) (k % length τ)
 
-  module _ {k : ℕ} {a : StartAnswer} {d : State} (log : Log bytes ts k a d) (lt : k < all_starts τ) where
+  module _ {k : ℕ} {a : Result Start Located} {d : State} (log : Log bytes ts k a d) (lt : k < all_starts τ) where
     -- it is served
     pub serves_nth : ServedTo bytes ts its_tables τ its_service (k / length τ) (k % length τ) a d
     serves_nth = serves_at log (k / length τ) (k % length τ) (sym (div-add-mod' k (length τ))) (an_entry k) (a_cycle k lt)
 
     -- so it is the last answer, moved by whole hyperperiods
-    pub serves : a ≡ Start (nth_start k)
+    pub serves : a ≡ Ok (nth_start k)
     serves = serves_nth.answers
 
     -- and the state has all its slots
     pub states_shaped : Shaped d
     states_shaped = shaped_at bytes ts its_tables τ its_service (k / length τ) (k % length τ) d serves_nth.at (an_entry k)
 
-  module _ {k : ℕ} {s : StartOf} {d : State} (log : Log bytes ts k (Start s) d) (lt : k < all_starts τ) where
+  module _ {k : ℕ} {s : Start} {d : State} (log : Log bytes ts k (Ok s) d) (lt : k < all_starts τ) where
     -- the start that is answered
     pub start_is : s ≡ nth_start k
     start_is = let e = serves log lt in cc
@@ -96,7 +96,7 @@ module _ (bytes : List ℕ) (are-bytes : Bytes bytes) (ts : Set) (τ : List Entr
     refuses_early end early = early_refused bytes ts its_tables τ its_service (serves_nth log lt) (an_entry k) end early
 
   -- after the last start of the last cycle an honest end is refused with 24, and the state stays
-  pub after_the_last : {k : ℕ} {s : StartOf} {d : State} → Log bytes ts k (Start s) d → suc k ≡ all_starts τ → (end : ℕ) → Honest ts s end →
+  pub after_the_last : {k : ℕ} {s : Start} {d : State} → Log bytes ts k (Ok s) d → suc k ≡ all_starts τ → (end : ℕ) → Honest ts s end →
       go_on bytes d end ≡ refused (located bytes (refusal 24 0)) d
   after_the_last {k} log last end honest =
       let r : ℕ = length τ - 1 in
@@ -115,7 +115,7 @@ module _ (bytes : List ℕ) (are-bytes : Bytes bytes) (ts : Set) (τ : List Entr
       )
 
   -- a start is not before the end of the start before it, also from one cycle to the next
-  pub starts_alone : {k : ℕ} {s s' : StartOf} {d d' : State} → Log bytes ts k (Start s) d → Log bytes ts (suc k) (Start s') d' → suc k < all_starts τ →
+  pub starts_alone : {k : ℕ} {s s' : Start} {d d' : State} → Log bytes ts k (Ok s) d → Log bytes ts (suc k) (Ok s') d' → suc k < all_starts τ →
       s.time + (task ts s.task).time ≤ s'.time
   starts_alone {k} {s} {s'} log log' lt =
       let c : ℕ = k / length τ in
@@ -134,10 +134,10 @@ module _ (bytes : List ℕ) (are-bytes : Bytes bytes) (ts : Set) (τ : List Entr
 
   -- a log whose last answer is a start
   abbrev ALog : ℕ → Type 0
-  ALog k = (s : StartOf) × (d : State) × Log bytes ts k (Start s) d
+  ALog k = (s : Start) × (d : State) × Log bytes ts k (Ok s) d
 
   -- every log is one
-  a_log : {k : ℕ} {a : StartAnswer} {d : State} → Log bytes ts k a d → k < all_starts τ → ALog k
+  a_log : {k : ℕ} {a : Result Start Located} {d : State} → Log bytes ts k a d → k < all_starts τ → ALog k
   a_log {k} {a} {d} log lt = (nth_start k, d, rw (serves log lt) at log)
 
   -- and goes on: the job ends when it starts
@@ -150,7 +150,7 @@ module _ (bytes : List ℕ) (are-bytes : Bytes bytes) (ts : Set) (τ : List Entr
   logs_exist (suc k) lt = one_more k (logs_exist k (omega arith)) lt
 
   -- every start but the first is after instant 0, so that there are ends before it
-  pub later_starts : {k : ℕ} {s : StartOf} {d : State} → Log bytes ts (suc k) (Start s) d → suc k < all_starts τ → 0 < s.time
+  pub later_starts : {k : ℕ} {s : Start} {d : State} → Log bytes ts (suc k) (Ok s) d → suc k < all_starts τ → 0 < s.time
   later_starts {k} log lt =
       let before = logs_exist k (omega arith) in
       let runs : 1 ≤ (task ts before.0.task).time =

@@ -8,9 +8,9 @@ use native.Mathlib.Omega.{arith}
 use lib.Dec.{ltb}
 use borrow.Author.Tests.{ltb-true, ltb-false}
 use Rattle.rules.specs.declared.Located.{Located}
-use Rattle.rules.specs.declared.StartAnswer.TheVariants.{Refused}
 use Rattle.rules.specs.declared.Dispatcher.{Dispatcher as State}
 use Rattle.rules.specs.declared.Turn.{Turn}
+use Rattle.std.specs.Prelude.{Err}
 use Rattle.rules.specs.Refusals.{refusal, of_no_image, test, First, no_test, holds, passes}
 use Rattle.rules.specs.Tasks.{hyperperiod}
 use Rattle.rules.specs.Priority.{all_started, setting}
@@ -99,7 +99,7 @@ module _ (bytes : List ℕ) (s : State) where
 
 -- what a turn of the dispatcher leaves, if it refuses: place and offset 0, and the state that the number says
 abbrev LeavesIfRefused : State → Turn → Type 0
-LeavesIfRefused s t = (r : Located) → t.answer ≡ Refused r → (r.place ≡ 0) × (r.offset ≡ 0) × Leaves s r.number t.state
+LeavesIfRefused s t = (r : Located) → t.answer ≡ Err r → (r.place ≡ 0) × (r.offset ≡ 0) × Leaves s r.number t.state
 
 -- a refusal whose number leaves a state
 refused_leaves : {s after : State} {number : ℕ} → Leaves s number after → LeavesIfRefused s (refused (of_no_image (refusal number 0)) after)
@@ -122,7 +122,7 @@ module _ (bytes : List ℕ) (s : State) where
       (λ a. rw (a, next_turn) (start_leaves s.cycle (after_running s)))
 
   -- a refusal of going on has place and offset 0 and leaves the state that its number says
-  pub going_leaves : (end : ℕ) (r : Located) → (go_on bytes s end).answer ≡ Refused r → (r.place ≡ 0) × (r.offset ≡ 0) × Leaves s r.number (go_on bytes s end).state
+  pub going_leaves : (end : ℕ) (r : Located) → (go_on bytes s end).answer ≡ Err r → (r.place ≡ 0) × (r.offset ≡ 0) × Leaves s r.number (go_on bytes s end).state
   unfolding go_on
   going_leaves end =
       by_bool (is_stopped s) (λ a. rw (a, go_on) (refused_leaves was_stopped))

@@ -12,8 +12,7 @@ use borrow.Author.Tests.{leb-false, lt-leb}
 use Rattle.rules.specs.declared.Entry.{Entry}
 use Rattle.rules.specs.declared.Refusal.{Refusal}
 use Rattle.rules.specs.declared.Located.{Located}
-use Rattle.rules.specs.declared.CheckAnswer.TheVariants as check_case
-use Rattle.rules.specs.declared.MakeAnswer.TheVariants as make_case
+use Rattle.std.specs.Prelude.{Ok, Err}
 use Rattle.rules.specs.Refusals.{Judged, gives, refuses, refusal, or_else, then, first, unless, First}
 use Rattle.rules.specs.Tasks.{Set, hyperperiod, set_fault, set_tests}
 use Rattle.rules.specs.Setting.{Tables}
@@ -27,7 +26,7 @@ use Rattle.rules.specs.Located.{located, bare, RefusedAt}
 use Rattle.rules.specs.Operations.{read_timetable, read_tables, derive_from, rebuild_from, derived, rebuilt, check_answer, check_timetable, check_tables, into, derived_image, rebuilt_image, make_answer, output_after, derive, derive_output, rebuild, rebuild_output}
 use Rattle.rules.specs.Promised.{TimetableImage, TableImage, RefusesTimetableImage, RefusesTableImage}
 use Rattle.rules.proofs.Cases.{clash, first_none}
-use Rattle.rules.proofs.Locations.{refused_at}
+use Rattle.rules.proofs.Locations.{answer_refuses, refused_answer}
 use Rattle.rules.proofs.FirstTests.{one_first}
 use Rattle.rules.proofs.LateJobs.{late_refused, refused_late, replays_given, given_replays}
 use Rattle.rules.proofs.Differences.{differs_at, difference_found}
@@ -103,29 +102,19 @@ module _ (ts : Set) (X : Tables) where
     refuses_judged,
   )
 
--- plain checking tells the refusal that judging came to, located in the image
-check_refuses : {A : Type 0} (bytes : List ℕ) (z : Judged A) (r : Located) → check_answer bytes z ≡ check_case.Refused r → RefusedAt bytes z r
-check_refuses bytes (gives a) r e = clash (cc)
-check_refuses bytes (refuses s) r e = refused_at bytes s r (cc)
-
--- and so do deriving and rebuilding
-make_refuses : (bytes : List ℕ) (z : Judged (List ℕ)) (r : Located) → make_answer bytes z ≡ make_case.Refused r → RefusedAt bytes z r
-make_refuses bytes (gives result) r e = clash (cc)
-make_refuses bytes (refuses s) r e = refused_at bytes s r (cc)
-
 module _ (bytes : List ℕ) (r : Located) where
   -- so with checking of both kinds
-  pub timetable_refused_at : check_timetable bytes ≡ check_case.Refused r → RefusedAt bytes (derived bytes) r
+  pub timetable_refused_at : check_timetable bytes ≡ Err r → RefusedAt bytes (derived bytes) r
   unfolding check_timetable
-  timetable_refused_at e = check_refuses bytes (derived bytes) r e
+  timetable_refused_at e = answer_refuses _ bytes (derived bytes) r e
 
-  pub tables_refused_at : check_tables bytes ≡ check_case.Refused r → RefusedAt bytes (rebuilt bytes) r
+  pub tables_refused_at : check_tables bytes ≡ Err r → RefusedAt bytes (rebuilt bytes) r
   unfolding check_tables
-  tables_refused_at e = check_refuses bytes (rebuilt bytes) r e
+  tables_refused_at e = answer_refuses _ bytes (rebuilt bytes) r e
 
 module _ (bytes : List ℕ) where
   -- checking a timetable image refuses as the document does
-  pub timetable_refusals : (r : Located) → check_timetable bytes ≡ check_case.Refused r → RefusesTimetableImage bytes (bare r)
+  pub timetable_refusals : (r : Located) → check_timetable bytes ≡ Err r → RefusesTimetableImage bytes (bare r)
   timetable_refusals r e =
       let s = bare r in
       by-then (read_timetable bytes) derive_from s (timetable_refused_at bytes r e).judged
@@ -134,13 +123,13 @@ module _ (bytes : List ℕ) where
       ((timetable_refused i.set i.entries s).0 (refused_before (judge_timetable i.set i.entries) _ s d)))
 
   -- and the other way round
-  pub refuses_timetable : {r : Refusal} → RefusesTimetableImage bytes r → check_timetable bytes ≡ check_case.Refused (located bytes r)
+  pub refuses_timetable : {r : Refusal} → RefusesTimetableImage bytes r → check_timetable bytes ≡ Err (located bytes r)
   unfolding check_timetable
   refuses_timetable {r} (RefusesTimetableImage.by_framing q) = rw ((framing_order 1 bytes r).1 q)
   refuses_timetable {r} (RefusesTimetableImage.by_a_test {i = i} q f) = rw (q, (timetable_refused i.set i.entries r).1 f)
 
   -- checking a table image refuses as the document does
-  pub table_refusals : (r : Located) → check_tables bytes ≡ check_case.Refused r → RefusesTableImage bytes (bare r)
+  pub table_refusals : (r : Located) → check_tables bytes ≡ Err r → RefusesTableImage bytes (bare r)
   table_refusals r e =
       let s = bare r in
       by-then (read_tables bytes) rebuild_from s (tables_refused_at bytes r e).judged
@@ -149,7 +138,7 @@ module _ (bytes : List ℕ) where
       ((tables_refused i.set i.tables s).0 (refused_before (judge_tables i.set i.tables) _ s d)))
 
   -- and the other way round
-  pub refuses_tables : {r : Refusal} → RefusesTableImage bytes r → check_tables bytes ≡ check_case.Refused (located bytes r)
+  pub refuses_tables : {r : Refusal} → RefusesTableImage bytes r → check_tables bytes ≡ Err (located bytes r)
   unfolding check_tables
   refuses_tables {r} (RefusesTableImage.by_framing q) = rw ((framing_order 2 bytes r).1 q)
   refuses_tables {r} (RefusesTableImage.by_its_tables {i = i} q f) = rw (q, (tables_refused i.set i.tables r).1 f)
@@ -171,78 +160,78 @@ too_long room bytes l = rw (lt-leb (length bytes) room l)
 
 -- so the answer is 20 exactly where the result is longer than the output
 refused_too_long : (bytes : List ℕ) (room : ℕ) (result : List ℕ) (z : Judged (List ℕ)) → z ≡ into room result →
-    (make_answer bytes z ≡ make_case.Refused (located bytes (refusal 20 0))) ↔ (room < length result)
+    (make_answer bytes z ≡ Err (located bytes (refusal 20 0))) ↔ (room < length result)
 refused_too_long bytes room result z e = (
-  λ q. (into_refuses room result (refusal 20 0) (sym e ∙ (make_refuses bytes z _ q).judged)).0,
+  λ q. (into_refuses room result (refusal 20 0) (sym e ∙ (answer_refuses _ bytes z _ q).judged)).0,
   λ l. ap (make_answer bytes) (e ∙ too_long room result l),
 )
 
 -- a refusal leaves every byte of the output as it was
-refusal_keeps : (bytes : List ℕ) (z : Judged (List ℕ)) (old : List ℕ) (r : Located) → make_answer bytes z ≡ make_case.Refused r → output_after z old ≡ old
-refusal_keeps bytes z old r e = rw (make_refuses bytes z r e).judged
+refusal_keeps : (bytes : List ℕ) (z : Judged (List ℕ)) (old : List ℕ) (r : Located) → make_answer bytes z ≡ Err r → output_after z old ≡ old
+refusal_keeps bytes z old r e = rw (answer_refuses _ bytes z r e).judged
 
 -- an image that is made of what was judged
 module _ {A : Type 0} (bytes : List ℕ) (z : Judged A) (room : ℕ) (result : A → List ℕ) (r : Located) where
   -- making it refuses what judging refused, in the same way
-  refused_making : RefusedAt bytes z r → make_answer bytes (then z (λ a. into room (result a))) ≡ make_case.Refused r
+  refused_making : RefusedAt bytes z r → make_answer bytes (then z (λ a. into room (result a))) ≡ Err r
   refused_making w =
-      ap (λ (y : Judged A). make_answer bytes (then y (λ a. into room (result a)))) w.judged ∙ ap make_case.Refused (sym w.there)
+      ap (λ (y : Judged A). make_answer bytes (then y (λ a. into room (result a)))) w.judged ∙ ap Err (sym w.there)
 
   -- and otherwise only with 20, last
-  making_refuses : make_answer bytes (then z (λ a. into room (result a))) ≡ make_case.Refused r →
-      (check_answer bytes z ≡ check_case.Refused r) ⊎ ((r ≡ located bytes (refusal 20 0)) × (check_answer bytes z ≡ check_case.Accepted))
+  making_refuses : make_answer bytes (then z (λ a. into room (result a))) ≡ Err r →
+      (check_answer bytes z ≡ Err r) ⊎ ((r ≡ located bytes (refusal 20 0)) × (check_answer bytes z ≡ Ok tt))
   making_refuses e =
-      let w = make_refuses bytes (then z (λ a. into room (result a))) r e in
-      by-then z (λ a. into room (result a)) (bare r) w.judged (λ q. inl (ap (check_answer bytes) q ∙ ap check_case.Refused (sym w.there)))
+      let w = answer_refuses _ bytes (then z (λ a. into room (result a))) r e in
+      by-then z (λ a. into room (result a)) (bare r) w.judged (λ q. inl (refused_answer _ (record { judged = q; there = w.there })))
       (λ a q d. inr (w.there ∙ ap (located bytes) (into_refuses room (result a) (bare r) d).1, ap (check_answer bytes) q))
 
 module _ (bytes old : List ℕ) (r : Located) where
   -- so deriving refuses what checking refuses
-  pub refused_derive : check_timetable bytes ≡ check_case.Refused r → derive bytes old ≡ make_case.Refused r
+  pub refused_derive : check_timetable bytes ≡ Err r → derive bytes old ≡ Err r
   unfolding derive
   refused_derive e = refused_making bytes (derived bytes) (length old) (λ i. table_image i.set i.tables) r (timetable_refused_at bytes r e)
 
   -- and 20
-  pub derive_refuses : derive bytes old ≡ make_case.Refused r →
-      (check_timetable bytes ≡ check_case.Refused r) ⊎ ((r ≡ located bytes (refusal 20 0)) × (check_timetable bytes ≡ check_case.Accepted))
+  pub derive_refuses : derive bytes old ≡ Err r →
+      (check_timetable bytes ≡ Err r) ⊎ ((r ≡ located bytes (refusal 20 0)) × (check_timetable bytes ≡ Ok tt))
   unfolding check_timetable derive
   derive_refuses = making_refuses bytes (derived bytes) (length old) (λ i. table_image i.set i.tables) r
 
   -- what it refuses is located
-  pub derive_refused_at : derive bytes old ≡ make_case.Refused r → r ≡ located bytes (bare r)
+  pub derive_refused_at : derive bytes old ≡ Err r → r ≡ located bytes (bare r)
   unfolding derive
-  derive_refused_at e = (make_refuses bytes (derived_image (length old) bytes) r e).there
+  derive_refused_at e = (answer_refuses _ bytes (derived_image (length old) bytes) r e).there
 
   -- it then leaves every byte of the output as it was
-  pub derive_keeps : derive bytes old ≡ make_case.Refused r → derive_output bytes old ≡ old
+  pub derive_keeps : derive bytes old ≡ Err r → derive_output bytes old ≡ old
   unfolding derive derive_output
   derive_keeps e = refusal_keeps bytes (derived_image (length old) bytes) old r e
 
   -- and rebuilding likewise
-  pub refused_rebuild : check_tables bytes ≡ check_case.Refused r → rebuild bytes old ≡ make_case.Refused r
+  pub refused_rebuild : check_tables bytes ≡ Err r → rebuild bytes old ≡ Err r
   unfolding rebuild
   refused_rebuild e = refused_making bytes (rebuilt bytes) (length old) (λ i. timetable_image i.set i.entries) r (tables_refused_at bytes r e)
 
-  pub rebuild_refuses : rebuild bytes old ≡ make_case.Refused r →
-      (check_tables bytes ≡ check_case.Refused r) ⊎ ((r ≡ located bytes (refusal 20 0)) × (check_tables bytes ≡ check_case.Accepted))
+  pub rebuild_refuses : rebuild bytes old ≡ Err r →
+      (check_tables bytes ≡ Err r) ⊎ ((r ≡ located bytes (refusal 20 0)) × (check_tables bytes ≡ Ok tt))
   unfolding check_tables rebuild
   rebuild_refuses = making_refuses bytes (rebuilt bytes) (length old) (λ i. timetable_image i.set i.entries) r
 
-  pub rebuild_refused_at : rebuild bytes old ≡ make_case.Refused r → r ≡ located bytes (bare r)
+  pub rebuild_refused_at : rebuild bytes old ≡ Err r → r ≡ located bytes (bare r)
   unfolding rebuild
-  rebuild_refused_at e = (make_refuses bytes (rebuilt_image (length old) bytes) r e).there
+  rebuild_refused_at e = (answer_refuses _ bytes (rebuilt_image (length old) bytes) r e).there
 
-  pub rebuild_keeps : rebuild bytes old ≡ make_case.Refused r → rebuild_output bytes old ≡ old
+  pub rebuild_keeps : rebuild bytes old ≡ Err r → rebuild_output bytes old ≡ old
   unfolding rebuild rebuild_output
   rebuild_keeps e = refusal_keeps bytes (rebuilt_image (length old) bytes) old r e
 
 module _ {bytes : List ℕ} {ts : Set} {τ : List Entry} (old : List ℕ) where
   -- deriving from an accepted image refuses exactly when the result is longer than the output
-  pub derive_too_long : TimetableImage bytes ts τ → (derive bytes old ≡ make_case.Refused (located bytes (refusal 20 0))) ↔ (length old < length (table_image ts (tables ts τ)))
+  pub derive_too_long : TimetableImage bytes ts τ → (derive bytes old ≡ Err (located bytes (refusal 20 0))) ↔ (length old < length (table_image ts (tables ts τ)))
   unfolding derive
   derive_too_long t = refused_too_long bytes (length old) (table_image ts (tables ts τ)) (derived_image (length old) bytes) (derives_image t (length old))
 
   -- and so does rebuilding
-  pub rebuild_too_long : TableImage bytes ts τ → (rebuild bytes old ≡ make_case.Refused (located bytes (refusal 20 0))) ↔ (length old < length (timetable_image ts τ))
+  pub rebuild_too_long : TableImage bytes ts τ → (rebuild bytes old ≡ Err (located bytes (refusal 20 0))) ↔ (length old < length (timetable_image ts τ))
   unfolding rebuild
   rebuild_too_long t = refused_too_long bytes (length old) (timetable_image ts τ) (rebuilt_image (length old) bytes) (rebuilds_image t (length old))

@@ -9,7 +9,7 @@ use lib.ListN.{length, drop}
 use Rattle.fields.specs.Number.{Bytes}
 use Rattle.rules.specs.declared.Entry.{Entry}
 use Rattle.rules.specs.declared.Refusal.{Refusal}
-use Rattle.rules.specs.declared.MakeAnswer.TheVariants.{Made, Refused}
+use Rattle.std.specs.Prelude.{Ok, Err}
 use Rattle.rules.specs.Refusals.{refusal}
 use Rattle.rules.specs.Tasks.{Set}
 use Rattle.rules.specs.Judging.{tables}
@@ -54,7 +54,7 @@ its_table_image b = demand2.tables_are b.tables
 module _ (bytes old : List ℕ) {result : List ℕ} where
   -- deriving from the one image, with room for the other, writes it
   pub derive_writes : BothImages bytes result → length result ≤ length old →
-      (derive bytes old ≡ Made (length result)) × (derive_output bytes old ≡ result ++ drop (length result) old)
+      (derive bytes old ≡ Ok (length result)) × (derive_output bytes old ≡ result ++ drop (length result) old)
   unfolding derive derive_output
   derive_writes b room =
       demand2.gives_made bytes (derived_image (length old) bytes) result old
@@ -62,7 +62,7 @@ module _ (bytes old : List ℕ) {result : List ℕ} where
 
   -- rebuilding from the other, with room for the one, writes it
   pub rebuild_writes : BothImages result bytes → length result ≤ length old →
-      (rebuild bytes old ≡ Made (length result)) × (rebuild_output bytes old ≡ result ++ drop (length result) old)
+      (rebuild bytes old ≡ Ok (length result)) × (rebuild_output bytes old ≡ result ++ drop (length result) old)
   unfolding rebuild rebuild_output
   rebuild_writes b room =
       demand2.gives_made bytes (rebuilt_image (length old) bytes) result old
@@ -70,35 +70,35 @@ module _ (bytes old : List ℕ) {result : List ℕ} where
 
 module _ (bytes old : List ℕ) (are-bytes : Bytes bytes) where
   -- deriving refuses exactly as the document does
-  pub derive_order : (r : Refusal) → (derive bytes old ≡ Refused (located bytes r)) ↔ RefusesDeriving bytes (length old) r
+  pub derive_order : (r : Refusal) → (derive bytes old ≡ Err (located bytes r)) ↔ RefusesDeriving bytes (length old) r
   derive_order r = (forth, back)
     where
-      forth : derive bytes old ≡ Refused (located bytes r) → RefusesDeriving bytes (length old) r
+      forth : derive bytes old ≡ Err (located bytes r) → RefusesDeriving bytes (length old) r
       forth e =
           elim (order.derive_refuses bytes old (located bytes r) e) [
             | inl q ↦ RefusesDeriving.by_the_image (order.timetable_refusals bytes (located bytes r) q)
             | inr w ↦
                 let a = (demand2.accepts_timetable bytes are-bytes).0 w.1 in
-                rw (one_located bytes r (refusal 20 0) w.0) (RefusesDeriving.too_long (with_its_tables a.2) ((order.derive_too_long old a.2).0 (e ∙ ap Refused w.0)))
+                rw (one_located bytes r (refusal 20 0) w.0) (RefusesDeriving.too_long (with_its_tables a.2) ((order.derive_too_long old a.2).0 (e ∙ ap Err w.0)))
           ]
 
-      back : {q : Refusal} → RefusesDeriving bytes (length old) q → derive bytes old ≡ Refused (located bytes q)
+      back : {q : Refusal} → RefusesDeriving bytes (length old) q → derive bytes old ≡ Err (located bytes q)
       back {q} (RefusesDeriving.by_the_image f) = order.refused_derive bytes old (located bytes q) (order.refuses_timetable bytes f)
       back (RefusesDeriving.too_long b long) = (order.derive_too_long old b.timetable).1 (omega (arith, ap length (its_table_image b), long))
 
   -- and so does rebuilding
-  pub rebuild_order : (r : Refusal) → (rebuild bytes old ≡ Refused (located bytes r)) ↔ RefusesRebuilding bytes (length old) r
+  pub rebuild_order : (r : Refusal) → (rebuild bytes old ≡ Err (located bytes r)) ↔ RefusesRebuilding bytes (length old) r
   rebuild_order r = (forth, back)
     where
-      forth : rebuild bytes old ≡ Refused (located bytes r) → RefusesRebuilding bytes (length old) r
+      forth : rebuild bytes old ≡ Err (located bytes r) → RefusesRebuilding bytes (length old) r
       forth e =
           elim (order.rebuild_refuses bytes old (located bytes r) e) [
             | inl q ↦ RefusesRebuilding.by_the_image (order.table_refusals bytes (located bytes r) q)
             | inr w ↦
                 let a = (demand2.accepts_tables bytes are-bytes).0 w.1 in
-                rw (one_located bytes r (refusal 20 0) w.0) (RefusesRebuilding.too_long (with_its_timetable a.2) ((order.rebuild_too_long old a.2).0 (e ∙ ap Refused w.0)))
+                rw (one_located bytes r (refusal 20 0) w.0) (RefusesRebuilding.too_long (with_its_timetable a.2) ((order.rebuild_too_long old a.2).0 (e ∙ ap Err w.0)))
           ]
 
-      back : {q : Refusal} → RefusesRebuilding bytes (length old) q → rebuild bytes old ≡ Refused (located bytes q)
+      back : {q : Refusal} → RefusesRebuilding bytes (length old) q → rebuild bytes old ≡ Err (located bytes q)
       back {q} (RefusesRebuilding.by_the_image f) = order.refused_rebuild bytes old (located bytes q) (order.refuses_tables bytes f)
       back (RefusesRebuilding.too_long b long) = (order.rebuild_too_long old b.tables).1 (omega (arith, ap length b.timetable.is, long))

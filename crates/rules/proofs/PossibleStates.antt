@@ -13,7 +13,7 @@ use Rattle.fields.specs.Body.{head₀, tail₀}
 use Rattle.rules.specs.declared.Task.{Task}
 use Rattle.rules.specs.declared.Refusal.{Refusal}
 use Rattle.rules.specs.declared.Dispatcher.{Dispatcher as State}
-use Rattle.rules.specs.Refusals.{first, unless}
+use Rattle.rules.specs.Refusals.{unless}
 use Rattle.rules.specs.Tasks.{task_in, Set, both, limits, task, release, jobs, hyperperiod, few_enough, set_fault, memory_fault}
 use Rattle.rules.specs.Priority.{slot, all_started}
 use Rattle.rules.specs.Dispatcher.{numbers_a_task, task_numbers, numbers, zero_task, stopped, all_zero, is_stopped, set_of, is_none, counts_possible, possible, Shaped, number_count}

@@ -15,16 +15,9 @@ use Rattle.rules.specs.declared.Entry.{Entry}
 use Rattle.rules.specs.declared.Idle.{Idle}
 use Rattle.rules.specs.declared.Refusal.{Refusal}
 use Rattle.rules.specs.declared.Located.{Located}
-use Rattle.rules.specs.declared.Start.{Start as StartOf}
+use Rattle.rules.specs.declared.Start.{Start}
 use Rattle.rules.specs.declared.Offsets.{Offsets as OffsetsOf}
 use Rattle.rules.specs.declared.Dispatcher.{Dispatcher as State}
-use Rattle.rules.specs.declared.SetAnswer.TheVariants as set_case
-use Rattle.rules.specs.declared.CheckAnswer.{CheckAnswer}
-use Rattle.rules.specs.declared.CheckAnswer.TheVariants as check_case
-use Rattle.rules.specs.declared.MakeAnswer.{MakeAnswer}
-use Rattle.rules.specs.declared.MakeAnswer.TheVariants as make_case
-use Rattle.rules.specs.declared.StartAnswer.{StartAnswer}
-use Rattle.rules.specs.declared.StartAnswer.TheVariants as start_case
 use Rattle.rules.specs.Refusals.{gives, refusal, First, tells, check_tells, make_tells, start_tells}
 use Rattle.rules.specs.Tasks.{Set, GoodSet, task, release, due, all_jobs, hyperperiod, figures, set_fault, memory_fault, memory_tests, judge_set, memory_set}
 use Rattle.rules.specs.Timetable.{ValidTimetable, entry_at, job_at}
@@ -36,6 +29,7 @@ use Rattle.rules.specs.Judging.{timetable_fault, tables, records_fault}
 use Rattle.rules.specs.Marks.{ID, PV, size}
 use Rattle.rules.specs.Image.{timetable_image, table_image, WritableTimetable, WritableTables}
 use Rattle.rules.specs.declared.Place.{Place}
+use Rattle.std.specs.Prelude.{Result, Ok, Err, ⊤}
 use Rattle.rules.specs.Framing.{frame_from, frame_records}
 use Rattle.rules.specs.Located.{located}
 use Rattle.rules.specs.Operations.{Timed, Tabled, read_timetable, read_tables, check_timetable, check_tables, derive, derive_output, rebuild, rebuild_output, derived_image, rebuilt_image, into}
@@ -105,7 +99,7 @@ valid_timetables = no_fault_valid
 -- DEMAND 2: a timetable image is accepted exactly when it is the image of a good set and a valid timetable
 
 pub accepted_timetables : (bytes : List ℕ) → Bytes bytes →
-    (check_timetable bytes ≡ check_case.Accepted) ↔ ((ts : Set) × (τ : List Entry) × TimetableImage bytes ts τ)
+    (check_timetable bytes ≡ Ok tt) ↔ ((ts : Set) × (τ : List Entry) × TimetableImage bytes ts τ)
 accepted_timetables = demand2.accepts_timetable
 
 -- DEMAND 2: its tables are exactly its irregularities, as the document defines them over the entries before
@@ -130,7 +124,7 @@ derived_images = demand2.derives_image
 -- DEMAND 2: a table image is accepted exactly when some valid timetable has those tables
 
 pub accepted_tables : (bytes : List ℕ) → Bytes bytes →
-    (check_tables bytes ≡ check_case.Accepted) ↔ ((ts : Set) × (τ : List Entry) × TableImage bytes ts τ)
+    (check_tables bytes ≡ Ok tt) ↔ ((ts : Set) × (τ : List Entry) × TableImage bytes ts τ)
 accepted_tables = demand2.accepts_tables
 
 -- DEMAND 2: that timetable is the only one
@@ -153,22 +147,22 @@ rebuilt_reads = demand2.rebuilt_reads
 -- DEMAND 2: with the two images of one timetable, each is written from the other, where there is room, and later bytes keep their values
 
 pub derive_writes : (bytes old : List ℕ) {result : List ℕ} → BothImages bytes result → length result ≤ length old →
-    (derive bytes old ≡ make_case.Made (length result)) × (derive_output bytes old ≡ result ++ drop (length result) old)
+    (derive bytes old ≡ Ok (length result)) × (derive_output bytes old ≡ result ++ drop (length result) old)
 derive_writes = making.derive_writes
 
 pub rebuild_writes : (bytes old : List ℕ) {result : List ℕ} → BothImages result bytes → length result ≤ length old →
-    (rebuild bytes old ≡ make_case.Made (length result)) × (rebuild_output bytes old ≡ result ++ drop (length result) old)
+    (rebuild bytes old ≡ Ok (length result)) × (rebuild_output bytes old ≡ result ++ drop (length result) old)
 rebuild_writes = making.rebuild_writes
 
 -- DEMAND 2: rebuild after derive, and derive after rebuild, are the identity on accepted images, in the lent outputs as they stand
 
-pub rebuild_after_derive : (bytes old : List ℕ) (n : ℕ) → Bytes bytes → derive bytes old ≡ make_case.Made n → (out : List ℕ) → length bytes ≤ length out →
-    (rebuild (take n (derive_output bytes old)) out ≡ make_case.Made (length bytes))
+pub rebuild_after_derive : (bytes old : List ℕ) (n : ℕ) → Bytes bytes → derive bytes old ≡ Ok n → (out : List ℕ) → length bytes ≤ length out →
+    (rebuild (take n (derive_output bytes old)) out ≡ Ok (length bytes))
     × (rebuild_output (take n (derive_output bytes old)) out ≡ bytes ++ drop (length bytes) out)
 rebuild_after_derive = demand2.rebuild_after_derive
 
-pub derive_after_rebuild : (bytes old : List ℕ) (n : ℕ) → Bytes bytes → rebuild bytes old ≡ make_case.Made n → (out : List ℕ) → length bytes ≤ length out →
-    (derive (take n (rebuild_output bytes old)) out ≡ make_case.Made (length bytes))
+pub derive_after_rebuild : (bytes old : List ℕ) (n : ℕ) → Bytes bytes → rebuild bytes old ≡ Ok n → (out : List ℕ) → length bytes ≤ length out →
+    (derive (take n (rebuild_output bytes old)) out ≡ Ok (length bytes))
     × (derive_output (take n (rebuild_output bytes old)) out ≡ bytes ++ drop (length bytes) out)
 derive_after_rebuild = demand2.derive_after_rebuild
 
@@ -181,7 +175,7 @@ module _ (bytes : List ℕ) (are-bytes : Bytes bytes) (ts : Set) (τ : List Entr
       (demand3.as_many_entries bytes are-bytes ts τ (demand2.rebuilds accepted), demand3.at_least_one bytes are-bytes ts τ (demand2.rebuilds accepted))
 
   -- never stuck: beginning, and each call that reports an honest end, answers the next entry, moved by whole hyperperiods: k mod length of cycle k / length
-  pub serves : {k : ℕ} {a : StartAnswer} {d : State} → Log bytes ts k a d → k < all_starts τ →
+  pub serves : {k : ℕ} {a : Result Start Located} {d : State} → Log bytes ts k a d → k < all_starts τ →
       start_tells a
       ≡ tells
       ((entry_at τ (k % length τ)).task
@@ -192,49 +186,49 @@ module _ (bytes : List ℕ) (are-bytes : Bytes bytes) (ts : Set) (τ : List Entr
   serves log lt = ap start_tells (demand3.serves bytes are-bytes ts τ (demand2.rebuilds accepted) log lt)
 
   -- the starts don't depend on the reported ends
-  pub starts_do_not_depend_on_ends : {k : ℕ} {a a' : StartAnswer} {d d' : State} → Log bytes ts k a d → Log bytes ts k a' d' → k < all_starts τ → a ≡ a'
+  pub starts_do_not_depend_on_ends : {k : ℕ} {a a' : Result Start Located} {d d' : State} → Log bytes ts k a d → Log bytes ts k a' d' → k < all_starts τ → a ≡ a'
   starts_do_not_depend_on_ends log log' lt =
       demand3.serves bytes are-bytes ts τ (demand2.rebuilds accepted) log lt ∙ sym (demand3.serves bytes are-bytes ts τ (demand2.rebuilds accepted) log' lt)
 
   -- each start is released, and inside its deadline
-  pub released : {k : ℕ} {s : StartOf} {d : State} → Log bytes ts k (start_case.Start s) d → k < all_starts τ →
+  pub released : {k : ℕ} {s : Start} {d : State} → Log bytes ts k (Ok s) d → k < all_starts τ →
       s.cycle * hyperperiod ts + release (task ts s.task) s.job ≤ s.time
   released = demand3.starts_released bytes are-bytes ts τ (demand2.rebuilds accepted)
 
-  pub in_time : {k : ℕ} {s : StartOf} {d : State} → Log bytes ts k (start_case.Start s) d → k < all_starts τ →
+  pub in_time : {k : ℕ} {s : Start} {d : State} → Log bytes ts k (Ok s) d → k < all_starts τ →
       s.time + (task ts s.task).time ≤ s.cycle * hyperperiod ts + due (task ts s.task) s.job
   in_time = demand3.starts_in_time bytes are-bytes ts τ (demand2.rebuilds accepted)
 
   -- each start is alone on the processor: not before the previous start + C, also across cycles
-  pub alone : {k : ℕ} {s s' : StartOf} {d d' : State} → Log bytes ts k (start_case.Start s) d → Log bytes ts (suc k) (start_case.Start s') d' →
+  pub alone : {k : ℕ} {s s' : Start} {d d' : State} → Log bytes ts k (Ok s) d → Log bytes ts (suc k) (Ok s') d' →
       suc k < all_starts τ → s.time + (task ts s.task).time ≤ s'.time
   alone = demand3.starts_alone bytes are-bytes ts τ (demand2.rebuilds accepted)
 
   -- an end before the start gives 21 and hands back the same state, so that the call can be made again
-  pub too_early_refused : {k : ℕ} {s : StartOf} {d : State} → Log bytes ts k (start_case.Start s) d → k < all_starts τ → (end : ℕ) → end < s.time →
+  pub too_early_refused : {k : ℕ} {s : Start} {d : State} → Log bytes ts k (Ok s) d → k < all_starts τ → (end : ℕ) → end < s.time →
       go_on bytes d end ≡ refused (located bytes (refusal 21 0)) d
   too_early_refused = demand3.refuses_early bytes are-bytes ts τ (demand2.rebuilds accepted)
 
   -- after the last start of the last cycle an honest end gives 24 and hands back the same state, so that it is so however often
-  pub after_the_last : {k : ℕ} {s : StartOf} {d : State} → Log bytes ts k (start_case.Start s) d → suc k ≡ all_starts τ → (end : ℕ) → Honest ts s end →
+  pub after_the_last : {k : ℕ} {s : Start} {d : State} → Log bytes ts k (Ok s) d → suc k ≡ all_starts τ → (end : ℕ) → Honest ts s end →
       go_on bytes d end ≡ refused (located bytes (refusal 24 0)) d
   after_the_last = demand3.after_the_last bytes are-bytes ts τ (demand2.rebuilds accepted)
 
   -- the offsets of each state stand where they should: of the ID to be used next and of each task's next PV, now and as at a cycle's start
-  pub offsets_stand : {k : ℕ} {a : StartAnswer} {d : State} → Log bytes ts k a d → k < all_starts τ → StateOffsets bytes ts accepted.tables d
+  pub offsets_stand : {k : ℕ} {a : Result Start Located} {d : State} → Log bytes ts k a d → k < all_starts τ → StateOffsets bytes ts accepted.tables d
   offsets_stand log lt =
       rw (one_table accepted.good accepted.valid accepted.has)
       (standing.logs_offsets_stand bytes are-bytes ts τ (demand2.rebuilds accepted) log lt)
 
   -- every state has all its slots
-  pub states_shaped : {k : ℕ} {a : StartAnswer} {d : State} → Log bytes ts k a d → k < all_starts τ → Shaped d
+  pub states_shaped : {k : ℕ} {a : Result Start Located} {d : State} → Log bytes ts k a d → k < all_starts τ → Shaped d
   states_shaped = demand3.states_shaped bytes are-bytes ts τ (demand2.rebuilds accepted)
 
   -- not vacuous: there is a log for every start; and an end 0 is before every start but the first
-  pub logs_exist : (k : ℕ) → k < all_starts τ → (s : StartOf) × (d : State) × Log bytes ts k (start_case.Start s) d
+  pub logs_exist : (k : ℕ) → k < all_starts τ → (s : Start) × (d : State) × Log bytes ts k (Ok s) d
   logs_exist = demand3.logs_exist bytes are-bytes ts τ (demand2.rebuilds accepted)
 
-  pub early_ends_exist : {k : ℕ} {s : StartOf} {d : State} → Log bytes ts (suc k) (start_case.Start s) d → suc k < all_starts τ → 0 < s.time
+  pub early_ends_exist : {k : ℕ} {s : Start} {d : State} → Log bytes ts (suc k) (Ok s) d → suc k < all_starts τ → 0 < s.time
   early_ends_exist = demand3.later_starts bytes are-bytes ts τ (demand2.rebuilds accepted)
 
 -- from one instant to another each record that is no longer left moves its offset behind it, so that at one instant no other offsets stand there
@@ -253,7 +247,7 @@ one_place_for_offsets = standing.one_offsets
 
 -- not vacuous: P2 is accepted
 
-pub p2_is_accepted : check_tables P2_bytes ≡ check_case.Accepted
+pub p2_is_accepted : check_tables P2_bytes ≡ Ok tt
 unfolding check_tables frame_records hyperperiod
 p2_is_accepted = refl
 
@@ -262,12 +256,12 @@ p2_is_accepted = refl
 pub set_order : (s : TaskSet) → First (memory_tests s) (memory_fault s)
 set_order = memory_order
 
-pub set_refusals : (s : TaskSet) (r : Refusal) → judge_set s ≡ set_case.Refused r → (memory_fault s ≡ some r) × (5 ≤ r.number) × (r.number ≤ 9)
+pub set_refusals : (s : TaskSet) (r : Refusal) → judge_set s ≡ Err r → (memory_fault s ≡ some r) × (5 ≤ r.number) × (r.number ≤ 9)
 unfolding judge_set
 set_refusals s r e =
     by_option (memory_fault s)
-    (λ n. let g : set_case.Good (figures (memory_set s)) ≡ set_case.Refused r = rw n at e in clash (cc))
-    (λ q n. let g : set_case.Refused q ≡ set_case.Refused r = rw n at e in
+    (λ n. let g : Ok (figures (memory_set s)) ≡ Err r = rw n at e in clash (cc))
+    (λ q n. let g : Err q ≡ Err r = rw n at e in
     let same : q ≡ r = cc in
     let is : memory_fault s ≡ some r = n ∙ ap some same in
     let n = numbers.set_numbers s r is in
@@ -275,47 +269,47 @@ set_refusals s r e =
 
 -- DEMAND 1, IMAGES: the refusal is the first in the document's order, by record and then by number, whose condition holds
 
-pub timetable_order : (bytes : List ℕ) (r : Refusal) → (check_timetable bytes ≡ check_case.Refused (located bytes r)) ↔ RefusesTimetableImage bytes r
+pub timetable_order : (bytes : List ℕ) (r : Refusal) → (check_timetable bytes ≡ Err (located bytes r)) ↔ RefusesTimetableImage bytes r
 timetable_order bytes r = (order.timetable_refusals bytes (located bytes r), order.refuses_timetable bytes)
 
-pub table_order : (bytes : List ℕ) (r : Refusal) → (check_tables bytes ≡ check_case.Refused (located bytes r)) ↔ RefusesTableImage bytes r
+pub table_order : (bytes : List ℕ) (r : Refusal) → (check_tables bytes ≡ Err (located bytes r)) ↔ RefusesTableImage bytes r
 table_order bytes r = (order.table_refusals bytes (located bytes r), order.refuses_tables bytes)
 
 -- DEMAND 1, IMAGES: which numbers there are
 
-pub timetable_numbers : (bytes : List ℕ) (r : Located) → check_timetable bytes ≡ check_case.Refused r → (1 ≤ r.number) × (r.number ≤ 16)
+pub timetable_numbers : (bytes : List ℕ) (r : Located) → check_timetable bytes ≡ Err r → (1 ≤ r.number) × (r.number ≤ 16)
 timetable_numbers = numbers.timetable_numbers
 
-pub table_numbers : (bytes : List ℕ) (r : Located) → check_tables bytes ≡ check_case.Refused r →
+pub table_numbers : (bytes : List ℕ) (r : Located) → check_tables bytes ≡ Err r →
     ((1 ≤ r.number) × (r.number ≤ 10)) ⊎ ((17 ≤ r.number) × (r.number ≤ 19))
 table_numbers = numbers.table_numbers
 
 -- DEMAND 1, IMAGES: deriving refuses as checking does, or with 20 an image that is accepted; and then every byte of the output is as it was
 
-pub derive_refusals : (bytes old : List ℕ) (r : Located) → derive bytes old ≡ make_case.Refused r →
-    ((check_timetable bytes ≡ check_case.Refused r) ⊎ ((r ≡ located bytes (refusal 20 0)) × (check_timetable bytes ≡ check_case.Accepted))) × (derive_output bytes old ≡ old)
+pub derive_refusals : (bytes old : List ℕ) (r : Located) → derive bytes old ≡ Err r →
+    ((check_timetable bytes ≡ Err r) ⊎ ((r ≡ located bytes (refusal 20 0)) × (check_timetable bytes ≡ Ok tt))) × (derive_output bytes old ≡ old)
 derive_refusals bytes old r e = (order.derive_refuses bytes old r e, order.derive_keeps bytes old r e)
 
 pub derive_too_long : {bytes : List ℕ} {ts : Set} {τ : List Entry} (old : List ℕ) → TimetableImage bytes ts τ →
-    (derive bytes old ≡ make_case.Refused (located bytes (refusal 20 0))) ↔ (length old < length (table_image ts (tables ts τ)))
+    (derive bytes old ≡ Err (located bytes (refusal 20 0))) ↔ (length old < length (table_image ts (tables ts τ)))
 derive_too_long = order.derive_too_long
 
 -- and rebuilding likewise
 
-pub rebuild_refusals : (bytes old : List ℕ) (r : Located) → rebuild bytes old ≡ make_case.Refused r →
-    ((check_tables bytes ≡ check_case.Refused r) ⊎ ((r ≡ located bytes (refusal 20 0)) × (check_tables bytes ≡ check_case.Accepted))) × (rebuild_output bytes old ≡ old)
+pub rebuild_refusals : (bytes old : List ℕ) (r : Located) → rebuild bytes old ≡ Err r →
+    ((check_tables bytes ≡ Err r) ⊎ ((r ≡ located bytes (refusal 20 0)) × (check_tables bytes ≡ Ok tt))) × (rebuild_output bytes old ≡ old)
 rebuild_refusals bytes old r e = (order.rebuild_refuses bytes old r e, order.rebuild_keeps bytes old r e)
 
 pub rebuild_too_long : {bytes : List ℕ} {ts : Set} {τ : List Entry} (old : List ℕ) → TableImage bytes ts τ →
-    (rebuild bytes old ≡ make_case.Refused (located bytes (refusal 20 0))) ↔ (length old < length (timetable_image ts τ))
+    (rebuild bytes old ≡ Err (located bytes (refusal 20 0))) ↔ (length old < length (timetable_image ts τ))
 rebuild_too_long = order.rebuild_too_long
 
 -- DEMAND 1, IMAGES: so each refuses exactly with the first that the document's order comes to, and 20 is the last
 
-pub derive_order : (bytes old : List ℕ) → Bytes bytes → (r : Refusal) → (derive bytes old ≡ make_case.Refused (located bytes r)) ↔ RefusesDeriving bytes (length old) r
+pub derive_order : (bytes old : List ℕ) → Bytes bytes → (r : Refusal) → (derive bytes old ≡ Err (located bytes r)) ↔ RefusesDeriving bytes (length old) r
 derive_order = making.derive_order
 
-pub rebuild_order : (bytes old : List ℕ) → Bytes bytes → (r : Refusal) → (rebuild bytes old ≡ make_case.Refused (located bytes r)) ↔ RefusesRebuilding bytes (length old) r
+pub rebuild_order : (bytes old : List ℕ) → Bytes bytes → (r : Refusal) → (rebuild bytes old ≡ Err (located bytes r)) ↔ RefusesRebuilding bytes (length old) r
 rebuild_order = making.rebuild_order
 
 -- THE DECISION RULE: the next instant is the first with a job waiting, and what is worked out there is what the rule decides in the document's words
@@ -350,10 +344,10 @@ decision_rule_at_offsets bytes ts a t n c = rule.offsets_decide bytes ts a t n.s
 
 -- DEMAND 1, DISPATCHER: beginning refuses exactly as table checking does, and hands back the stopped state
 
-pub beginning_refuses : (bytes : List ℕ) (r : Located) → check_tables bytes ≡ check_case.Refused r → begin bytes ≡ refused r stopped
+pub beginning_refuses : (bytes : List ℕ) (r : Located) → check_tables bytes ≡ Err r → begin bytes ≡ refused r stopped
 beginning_refuses = beginning.begin_refuses
 
-pub beginning_starts : (bytes : List ℕ) → Bytes bytes → check_tables bytes ≡ check_case.Accepted → (s : StartOf) × ((begin bytes).answer ≡ start_case.Start s)
+pub beginning_starts : (bytes : List ℕ) → Bytes bytes → check_tables bytes ≡ Ok tt → (s : Start) × ((begin bytes).answer ≡ Ok s)
 beginning_starts bytes b e =
     let w = (accepted_tables bytes b).0 e in
     let k = demand2.rebuilds w.2 in (
@@ -363,19 +357,19 @@ beginning_starts bytes b e =
 
 -- R-2, THE BYTE: where the place that is told is a record of the image, that record begins at the offset that is told; else the offset is 0
 
-pub timetable_byte : (bytes : List ℕ) → Bytes bytes → (a : CheckAnswer) → check_timetable bytes ≡ a →
+pub timetable_byte : (bytes : List ℕ) → Bytes bytes → (a : Result ⊤ Located) → check_timetable bytes ≡ a →
     TheByte 1 bytes (check_tells a).number (check_tells a).place (check_tells a).offset
 timetable_byte = places.timetable_tells
 
-pub tables_byte : (bytes : List ℕ) → Bytes bytes → (a : CheckAnswer) → check_tables bytes ≡ a →
+pub tables_byte : (bytes : List ℕ) → Bytes bytes → (a : Result ⊤ Located) → check_tables bytes ≡ a →
     TheByte 2 bytes (check_tells a).number (check_tells a).place (check_tells a).offset
 tables_byte = places.tables_tell
 
-pub derive_byte : (bytes : List ℕ) → Bytes bytes → (old : List ℕ) (a : MakeAnswer) → derive bytes old ≡ a →
+pub derive_byte : (bytes : List ℕ) → Bytes bytes → (old : List ℕ) (a : Result ℕ Located) → derive bytes old ≡ a →
     TheByte 1 bytes (make_tells a).number (make_tells a).place (make_tells a).offset
 derive_byte = places.derive_tells
 
-pub rebuild_byte : (bytes : List ℕ) → Bytes bytes → (old : List ℕ) (a : MakeAnswer) → rebuild bytes old ≡ a →
+pub rebuild_byte : (bytes : List ℕ) → Bytes bytes → (old : List ℕ) (a : Result ℕ Located) → rebuild bytes old ≡ a →
     TheByte 2 bytes (make_tells a).number (make_tells a).place (make_tells a).offset
 rebuild_byte = places.rebuild_tells
 
@@ -383,8 +377,8 @@ pub begin_byte : (bytes : List ℕ) → Bytes bytes →
     TheByte 2 bytes (start_tells (begin bytes).answer).number (start_tells (begin bytes).answer).place (start_tells (begin bytes).answer).offset
 begin_byte bytes b =
     beginning.by_check bytes
-    (λ r c. rw (beginning.begin_refuses bytes r c) (tables_byte bytes b (check_case.Refused r) c))
-    (λ c. let s = beginning_starts bytes b c in rw s.1 (tables_byte bytes b check_case.Accepted c))
+    (λ r c. rw (beginning.begin_refuses bytes r c) (tables_byte bytes b (Err r) c))
+    (λ c. let s = beginning_starts bytes b c in rw s.1 (tables_byte bytes b (Ok tt) c))
 
 -- DEMAND 1, DISPATCHER: going on refuses with the first of 23, 25, 21, 22, 24, 25 whose condition holds, and with nothing else
 
@@ -393,7 +387,7 @@ going_on_order = going.going_order
 
 -- DEMAND 1, DISPATCHER: the number is one of 21 to 25, place and offset 0, and the state is the one that the number leaves
 
-pub going_on_leaves : (bytes : List ℕ) (s : State) (end : ℕ) (r : Located) → (go_on bytes s end).answer ≡ start_case.Refused r →
+pub going_on_leaves : (bytes : List ℕ) (s : State) (end : ℕ) (r : Located) → (go_on bytes s end).answer ≡ Err r →
     (21 ≤ r.number) × (r.number ≤ 25) × (r.place ≡ 0) × (r.offset ≡ 0) × Leaves s r.number (go_on bytes s end).state
 going_on_leaves bytes s end r e =
     let l = going.going_leaves bytes s end r e in
@@ -418,13 +412,13 @@ slots_above_unread bytes s s' end b l = let w = above.going_alike bytes s s' b e
 
 -- where going on answers a start the state has a task, so no start depends on them
 
-pub no_start_by_slots_above : (bytes : List ℕ) (s s' : State) (end : ℕ) → SameBelow s s' → (a : StartOf) →
-    (go_on bytes s end).answer ≡ start_case.Start a → (go_on bytes s' end).answer ≡ start_case.Start a
+pub no_start_by_slots_above : (bytes : List ℕ) (s s' : State) (end : ℕ) → SameBelow s s' → (a : Start) →
+    (go_on bytes s end).answer ≡ Ok a → (go_on bytes s' end).answer ≡ Ok a
 no_start_by_slots_above bytes s s' end b a e = sym (slots_above_unread bytes s s' end b (above.has_a_task bytes s end a e)).0 ∙ e
 
 -- SLOTS FROM N UP pass on: the state after a start holds there what the state before held
 
-pub slots_above_pass_on : (bytes : List ℕ) (s : State) (end : ℕ) (a : StartOf) → (go_on bytes s end).answer ≡ start_case.Start a →
+pub slots_above_pass_on : (bytes : List ℕ) (s : State) (end : ℕ) (a : Start) → (go_on bytes s end).answer ≡ Ok a →
     SameAbove s.set.n (go_on bytes s end).state s
 slots_above_pass_on = above.going_hands_on
 

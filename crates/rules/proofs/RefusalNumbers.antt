@@ -14,7 +14,7 @@ use Rattle.rules.specs.declared.Entry.{Entry}
 use Rattle.rules.specs.declared.TaskSet.{TaskSet}
 use Rattle.rules.specs.declared.Refusal.{Refusal}
 use Rattle.rules.specs.declared.Located.{Located}
-use Rattle.rules.specs.declared.CheckAnswer.TheVariants.{Refused}
+use Rattle.std.specs.Prelude.{Err}
 use Rattle.rules.specs.Refusals.{refuses, in_turn}
 use Rattle.rules.specs.Tasks.{Set, both, hyperperiod, task_tests, set_tests, memory_fault, memory_set}
 use Rattle.rules.specs.Setting.{Tables}
@@ -122,9 +122,9 @@ set_numbers s r e =
 
 module _ (bytes : List ℕ) (r : Located) where
   -- checking a timetable image refuses with 1 to 16
-  pub timetable_numbers : check_timetable bytes ≡ Refused r → (1 ≤ r.number) × (r.number ≤ 16)
+  pub timetable_numbers : check_timetable bytes ≡ Err r → (1 ≤ r.number) × (r.number ≤ 16)
   timetable_numbers e = timetable_image_number (timetable_refusals bytes r e)
 
   -- checking a table image refuses with 1 to 10 or 17 to 19
-  pub table_numbers : check_tables bytes ≡ Refused r → ((1 ≤ r.number) × (r.number ≤ 10)) ⊎ ((17 ≤ r.number) × (r.number ≤ 19))
+  pub table_numbers : check_tables bytes ≡ Err r → ((1 ≤ r.number) × (r.number ≤ 10)) ⊎ ((17 ≤ r.number) × (r.number ≤ 19))
   table_numbers e = table_image_number (table_refusals bytes r e)

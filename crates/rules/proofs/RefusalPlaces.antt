@@ -13,11 +13,8 @@ use Rattle.fields.specs.Number.{Bytes}
 use Rattle.rules.specs.declared.Entry.{Entry}
 use Rattle.rules.specs.declared.Refusal.{Refusal}
 use Rattle.rules.specs.declared.Located.{Located}
-use Rattle.rules.specs.declared.CheckAnswer.{CheckAnswer}
-use Rattle.rules.specs.declared.CheckAnswer.TheVariants as check_case
-use Rattle.rules.specs.declared.MakeAnswer.{MakeAnswer}
-use Rattle.rules.specs.declared.MakeAnswer.TheVariants as make_case
-use Rattle.rules.specs.Refusals.{gives, refuses, in_turn, check_tells, make_tells}
+use Rattle.std.specs.Prelude.{Result, Ok, Err, ⊤}
+use Rattle.rules.specs.Refusals.{gives, refuses, in_turn, answer_tells, check_tells, make_tells}
 use Rattle.rules.specs.Tasks.{Set, hyperperiod, task_tests, set_tests, set_fault}
 use Rattle.rules.specs.Setting.{Tables}
 use Rattle.rules.specs.Judging.{tables}
@@ -190,30 +187,37 @@ nothing_named kind bytes number place e = record {
   none_named = λ _. refl;
 }
 
+-- what an operation tells of an image, where its refusal tells the byte
+tells_byte : {A : Type 0} (values : A → List ℕ) (kind : ℕ) (bytes : List ℕ) (a : Result A Located) →
+    ((r : Located) → a ≡ Err r → TheByte kind bytes r.number r.place r.offset) →
+    TheByte kind bytes (answer_tells values a).number (answer_tells values a).place (answer_tells values a).offset
+tells_byte values kind bytes (Ok x) refused = nothing_named kind bytes 0 0 refl
+tells_byte values kind bytes (Err r) refused = refused r refl
+
 module _ (bytes : List ℕ) (b : Bytes bytes) where
   -- so it is with the refusals of plain checking
-  checked_timetable_byte : (r : Located) → check_timetable bytes ≡ check_case.Refused r → TheByte 1 bytes r.number r.place r.offset
+  checked_timetable_byte : (r : Located) → check_timetable bytes ≡ Err r → TheByte 1 bytes r.number r.place r.offset
   checked_timetable_byte r e =
       rw (timetable_refused_at bytes r e).there (timetable_refusal_byte bytes b (bare r) (timetable_refusals bytes r e))
 
-  checked_tables_byte : (r : Located) → check_tables bytes ≡ check_case.Refused r → TheByte 2 bytes r.number r.place r.offset
+  checked_tables_byte : (r : Located) → check_tables bytes ≡ Err r → TheByte 2 bytes r.number r.place r.offset
   checked_tables_byte r e = rw (tables_refused_at bytes r e).there (table_refusal_byte bytes b (bare r) (table_refusals bytes r e))
 
   -- with what every function tells of an image
-  pub timetable_tells : (a : CheckAnswer) → check_timetable bytes ≡ a → TheByte 1 bytes (check_tells a).number (check_tells a).place (check_tells a).offset
-  timetable_tells check_case.Accepted e = nothing_named 1 bytes 0 0 refl
-  timetable_tells (check_case.Refused r) e = checked_timetable_byte r e
+  pub timetable_tells : (a : Result ⊤ Located) → check_timetable bytes ≡ a → TheByte 1 bytes (check_tells a).number (check_tells a).place (check_tells a).offset
+  timetable_tells a e = tells_byte _ 1 bytes a (λ r f. checked_timetable_byte r (e ∙ f))
 
-  pub tables_tell : (a : CheckAnswer) → check_tables bytes ≡ a → TheByte 2 bytes (check_tells a).number (check_tells a).place (check_tells a).offset
-  tables_tell check_case.Accepted e = nothing_named 2 bytes 0 0 refl
-  tables_tell (check_case.Refused r) e = checked_tables_byte r e
+  pub tables_tell : (a : Result ⊤ Located) → check_tables bytes ≡ a → TheByte 2 bytes (check_tells a).number (check_tells a).place (check_tells a).offset
+  tables_tell a e = tells_byte _ 2 bytes a (λ r f. checked_tables_byte r (e ∙ f))
 
-  pub derive_tells : (old : List ℕ) (a : MakeAnswer) → derive bytes old ≡ a → TheByte 1 bytes (make_tells a).number (make_tells a).place (make_tells a).offset
-  derive_tells old (make_case.Made n) e = nothing_named 1 bytes 0 0 refl
-  derive_tells old (make_case.Refused r) e =
-      ⊎_elim (checked_timetable_byte r) (λ w. rw w.0 (nothing_named 1 bytes 20 0 refl)) (derive_refuses bytes old r e)
+  pub derive_tells : (old : List ℕ) (a : Result ℕ Located) → derive bytes old ≡ a →
+      TheByte 1 bytes (make_tells a).number (make_tells a).place (make_tells a).offset
+  derive_tells old a e =
+      tells_byte _ 1 bytes a
+      (λ r f. ⊎_elim (checked_timetable_byte r) (λ w. rw w.0 (nothing_named 1 bytes 20 0 refl)) (derive_refuses bytes old r (e ∙ f)))
 
-  pub rebuild_tells : (old : List ℕ) (a : MakeAnswer) → rebuild bytes old ≡ a → TheByte 2 bytes (make_tells a).number (make_tells a).place (make_tells a).offset
-  rebuild_tells old (make_case.Made n) e = nothing_named 2 bytes 0 0 refl
-  rebuild_tells old (make_case.Refused r) e =
-      ⊎_elim (checked_tables_byte r) (λ w. rw w.0 (nothing_named 2 bytes 20 0 refl)) (rebuild_refuses bytes old r e)
+  pub rebuild_tells : (old : List ℕ) (a : Result ℕ Located) → rebuild bytes old ≡ a →
+      TheByte 2 bytes (make_tells a).number (make_tells a).place (make_tells a).offset
+  rebuild_tells old a e =
+      tells_byte _ 2 bytes a
+      (λ r f. ⊎_elim (checked_tables_byte r) (λ w. rw w.0 (nothing_named 2 bytes 20 0 refl)) (rebuild_refuses bytes old r (e ∙ f)))

@@ -5,11 +5,11 @@ use Prim.Native.Nat.{ℕ, zero, suc, ◌+◌, ◌*◌, ◌-◌, ◌≤◌, ◌<�
 use native.Mathlib.Omega.{arith}
 use lib.ListN.{length}
 use Rattle.rules.specs.declared.Entry.{Entry}
-use Rattle.rules.specs.declared.Start.{Start as StartOf}
-use Rattle.rules.specs.declared.StartAnswer.{StartAnswer}
-use Rattle.rules.specs.declared.StartAnswer.TheVariants.{Start}
+use Rattle.rules.specs.declared.Start.{Start}
 use Rattle.rules.specs.declared.Dispatcher.{Dispatcher as State}
 use Rattle.rules.specs.declared.Turn.{Turn}
+use Rattle.std.specs.Prelude.{Result, Ok}
+use Rattle.rules.specs.declared.Located.{Located}
 use Rattle.rules.specs.Refusals.{refusal}
 use Rattle.rules.specs.Tasks.{Set, hyperperiod}
 use Rattle.rules.specs.Setting.{Tables}
@@ -20,15 +20,15 @@ use Rattle.rules.proofs.Serving.{first_turn, Serves, At, Served, serves_first, s
 
 module _ (bytes : List ℕ) (ts : Set) (X : Tables) (τ : List Entry) (g : Served bytes ts X τ) where
   -- the last answer is entry r of cycle c, and the state is the one after it
-  pub record ServedTo (c r : ℕ) (a : StartAnswer) (d : State) : Type 0 where
-    pub answers : a ≡ Start (start_of (hyperperiod ts) τ c r)
+  pub record ServedTo (c r : ℕ) (a : Result Start Located) (d : State) : Type 0 where
+    pub answers : a ≡ Ok (start_of (hyperperiod ts) τ c r)
     pub at : At bytes ts X τ c r d
 
   -- so it is after a call that serves it
   served_to : {c r : ℕ} {turn : Turn} → Serves bytes ts X τ c r turn → ServedTo c r turn.answer turn.state
   served_to v = record { answers = ap (λ (t : Turn). t.answer) v.answers; at = rw (ap (λ (t : Turn). t.state) v.answers) v.at }
 
-  module _ {c r : ℕ} {s : StartOf} {d : State} (v : ServedTo c r (Start s) d) (an_entry : r < length τ) (end : ℕ) where
+  module _ {c r : ℕ} {s : Start} {d : State} (v : ServedTo c r (Ok s) d) (an_entry : r < length τ) (end : ℕ) where
     -- the start that was answered
     its_start : s ≡ start_of (hyperperiod ts) τ c r
     its_start = let e = v.answers in cc
@@ -59,11 +59,11 @@ module _ (bytes : List ℕ) (ts : Set) (X : Tables) (τ : List Entry) (g : Serve
       last_refused last lc = refuses_after bytes ts X τ g c r d v.at an_entry last end lc not_early not_late
 
   -- after k honest ends entry r of cycle c is served, for k = c · length + r
-  abbrev InService : ℕ → StartAnswer → State → Type 0
+  abbrev InService : ℕ → Result Start Located → State → Type 0
   InService k a d = (c r : ℕ) → k ≡ c * length τ + r → r < length τ → c ≤ last_cycle → ServedTo c r a d
 
   -- so it is after a call that reports an honest end
-  after_going_on : {k : ℕ} {s : StartOf} {d : State} {turn : Turn} → InService k (Start s) d → (end : ℕ) → Honest ts s end → turn ≡ go_on bytes d end →
+  after_going_on : {k : ℕ} {s : Start} {d : State} {turn : Turn} → InService k (Ok s) d → (end : ℕ) → Honest ts s end → turn ≡ go_on bytes d end →
       InService (suc k) turn.answer turn.state
   after_going_on before end honest e zero zero i lt le = absurd (omega arith)
   after_going_on before end honest e (suc c) zero i lt le =
@@ -72,8 +72,8 @@ module _ (bytes : List ℕ) (ts : Set) (X : Tables) (τ : List Entry) (g : Serve
   after_going_on before end honest e c (suc r) i lt le = rw e (next_entry (before c r (omega arith) (omega arith) le) (omega arith) end honest lt)
 
   -- and after one that reports an end before its start
-  after_too_early : {k : ℕ} {s : StartOf} {d : State} {turn : Turn} → InService k (Start s) d → (end : ℕ) → end < s.time → turn ≡ go_on bytes d end →
-      InService k (Start s) turn.state
+  after_too_early : {k : ℕ} {s : Start} {d : State} {turn : Turn} → InService k (Ok s) d → (end : ℕ) → end < s.time → turn ≡ go_on bytes d end →
+      InService k (Ok s) turn.state
   after_too_early before end early e c r i lt le =
       let v = before c r i lt le in record { answers = v.answers; at = rw (e, early_refused v lt end early) v.at }
 
@@ -85,7 +85,7 @@ module _ (bytes : List ℕ) (ts : Set) (X : Tables) (τ : List Entry) (g : Serve
     after_beginning e (suc c) r i lt le = absurd (omega arith)
 
     -- so it is in every log
-    pub logged : {k : ℕ} {a : StartAnswer} {d : State} → Log bytes ts k a d → InService k a d
+    pub logged : {k : ℕ} {a : Result Start Located} {d : State} → Log bytes ts k a d → InService k a d
     logged (begun e) = after_beginning e
     logged (went_on log end honest e) = after_going_on (logged log) end honest e
     logged (too_early log end early e) = after_too_early (logged log) end early e

@@ -10,10 +10,10 @@ use lib.ListN.{length, take, drop, replicate, drop_of_length-le, length-append, 
 use lib.Seq.{take-suc, drop-cons}
 use borrow.Author.Tests.{lt-ltb, le-ltb, le-leb, eq-eqb, ne_eqb}
 use Rattle.rules.specs.declared.Entry.{Entry}
-use Rattle.rules.specs.declared.Start.{Start as StartOf}
-use Rattle.rules.specs.declared.StartAnswer.TheVariants.{Start}
+use Rattle.rules.specs.declared.Start.{Start}
 use Rattle.rules.specs.declared.Dispatcher.{Dispatcher as State}
 use Rattle.rules.specs.declared.Turn.{Turn}
+use Rattle.std.specs.Prelude.{Ok}
 use Rattle.rules.specs.Refusals.{Judged, gives, refuses, refusal}
 use Rattle.rules.specs.Tasks.{Set, limits, task, hyperperiod, few_enough, GoodSet, set_fault}
 use Rattle.rules.specs.Timetable.{entry_at, job_at, ValidTimetable}
@@ -41,8 +41,8 @@ use Rattle.rules.proofs.OffsetReplay.{zeros_same, ReplaysAt, replay_begins, repl
 use Rattle.rules.proofs.KeptOffsets.{kept_behind, KeepsIdles, keeps_begin, keeps_starts}
 
 -- a start answered, with the state beside it
-abbrev pub answered : StartOf → State → Turn
-answered a s = record { answer = Start a; state = s }
+abbrev pub answered : Start → State → Turn
+answered a s = record { answer = Ok a; state = s }
 
 -- the turn that makes the first start
 abbrev pub first_turn : List ℕ → Tabled → Turn

@@ -9,7 +9,7 @@ use lib.ListN.{length}
 use borrow.Author.Tests.{ltb-true, le-leb}
 use Rattle.fields.specs.Body.{head₀, tail₀}
 use Rattle.rules.specs.declared.Task.{Task}
-use Rattle.rules.specs.Tasks.{task_in, Set, task, jobs}
+use Rattle.rules.specs.Tasks.{task_in, Set, jobs}
 use Rattle.rules.specs.Priority.{slot, start_job, all_started, least_release, waiting, run_lowest, by_priority, setting_of}
 use Rattle.rules.specs.Dispatcher.{counts_possible}
 use Rattle.rules.proofs.Cases.{by_bool, by_eq, both_true, both_in}

@@ -9,11 +9,11 @@ use lib.ListN.{length, replicate, get_or, length-take}
 use borrow.Author.Tests.{ltb-true, ne_eqb}
 use Rattle.fields.specs.Body.{tail₀}
 use Rattle.rules.specs.declared.Task.{Task}
-use Rattle.rules.specs.declared.Start.{Start as StartOf}
-use Rattle.rules.specs.declared.StartAnswer.TheVariants.{Start}
+use Rattle.rules.specs.declared.Start.{Start}
 use Rattle.rules.specs.declared.Dispatcher.{Dispatcher as State}
 use Rattle.rules.specs.declared.Turn.{Turn}
-use Rattle.rules.specs.Tasks.{Set, both, limits, task, jobs, hyperperiod, memory_fault, memory_set}
+use Rattle.std.specs.Prelude.{Ok}
+use Rattle.rules.specs.Tasks.{Set, both, limits, jobs, hyperperiod, memory_fault, memory_set}
 use Rattle.rules.specs.Setting.{Setting, Tables}
 use Rattle.rules.specs.Priority.{slot, all_started, setting_of, setting}
 use Rattle.rules.specs.Offsets.{Source, lent, idle_now, readable, tasks_readable, Standing, NextStart, all_readable, shown_delays, shown_step, idled, waited, next_start_in, next_start, moved, inversion_offsets, first_offsets}
@@ -215,7 +215,7 @@ module _ (bytes : List ℕ) (s s' : State) (b : SameBelow s s') where
 
 -- what a turn that answers a start hands on in the slots from n up
 abbrev HandsOn : State → Turn → Type 0
-HandsOn s t = (a : StartOf) → t.answer ≡ Start a → SameAbove s.set.n t.state s
+HandsOn s t = (a : Start) → t.answer ≡ Ok a → SameAbove s.set.n t.state s
 
 module _ (bytes : List ℕ) (s : State) where
   -- looking for the next start, from slots that hold there what the state holds
@@ -246,7 +246,7 @@ module _ (bytes : List ℕ) (s : State) where
       (λ a. rw (a, next_turn) (start_hands_on s.cycle (after_running s) (λ j k. refl) (λ j k. refl)))
 
   -- a start that going on answers is that of the next turn, from a possible state
-  pub from_next_turn : (end : ℕ) (a : StartOf) → (go_on bytes s end).answer ≡ Start a → (possible s ≡ true) × (go_on bytes s end ≡ next_turn bytes s)
+  pub from_next_turn : (end : ℕ) (a : Start) → (go_on bytes s end).answer ≡ Ok a → (possible s ≡ true) × (go_on bytes s end ≡ next_turn bytes s)
   unfolding go_on
   from_next_turn end a =
       by_bool (is_stopped s) (λ u. rw (u, go_on) (λ e. clash (cc)))
@@ -256,7 +256,7 @@ module _ (bytes : List ℕ) (s : State) where
       (λ b. rw (u, b, go_on) (λ e. clash (cc))))
 
   -- such a state has a task
-  pub has_a_task : (end : ℕ) (a : StartOf) → (go_on bytes s end).answer ≡ Start a → 1 ≤ s.set.n
+  pub has_a_task : (end : ℕ) (a : Start) → (go_on bytes s end).answer ≡ Ok a → 1 ≤ s.set.n
   has_a_task end a e = (is_possible s (from_next_turn end a e).0).some_tasks
 
   -- going on

@@ -14,9 +14,11 @@ use Rattle.fields.specs.Number.{Bytes}
 use Rattle.rules.specs.declared.Entry.{Entry}
 use Rattle.rules.specs.declared.Idle.{Idle}
 use Rattle.rules.specs.declared.Inversion.{Inversion}
-use Rattle.rules.specs.declared.StartAnswer.{StartAnswer}
 use Rattle.rules.specs.declared.Offsets.{Offsets as OffsetsOf}
 use Rattle.rules.specs.declared.Dispatcher.{Dispatcher as State}
+use Rattle.std.specs.Prelude.{Result}
+use Rattle.rules.specs.declared.Located.{Located}
+use Rattle.rules.specs.declared.Start.{Start}
 use Rattle.rules.specs.Refusals.{gives}
 use Rattle.rules.specs.Tasks.{Set, task, hyperperiod, set_fault}
 use Rattle.rules.specs.Timetable.{entry_at}
@@ -236,8 +238,8 @@ module _ {bytes : List ℕ} {ts : Set} {X : Tables} {τ : List Entry} (g : Serve
 
 -- in the state of every log they do, in the image of the timetable's tables
 pub logs_offsets_stand : (bytes : List ℕ) (are-bytes : Bytes bytes) (ts : Set) (τ : List Entry)
-    (accepted : rebuilt bytes ≡ gives (record { set = ts; entries = τ })) {k : ℕ} {a : StartAnswer} {d : State} → Log bytes ts k a d → k < all_starts τ →
-    StateOffsets bytes ts (tables ts τ) d
+    (accepted : rebuilt bytes ≡ gives (record { set = ts; entries = τ })) {k : ℕ} {a : Result Start Located} {d : State} → Log bytes ts k a d →
+    k < all_starts τ → StateOffsets bytes ts (tables ts τ) d
 logs_offsets_stand bytes are-bytes ts τ accepted {k} {d = d} log lt =
     let g = its_service bytes are-bytes ts τ accepted in
     rw g.own

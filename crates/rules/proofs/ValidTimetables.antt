@@ -14,7 +14,7 @@ use Rattle.fields.specs.Body.{head₀, tail₀}
 use Rattle.rules.specs.declared.Task.{Task}
 use Rattle.rules.specs.declared.Entry.{Entry}
 use Rattle.rules.specs.Refusals.{in_turn}
-use Rattle.rules.specs.Tasks.{sum_of_jobs, task_in, Set, task, jobs, all_jobs, hyperperiod}
+use Rattle.rules.specs.Tasks.{sum_of_jobs, task_in, Set, jobs, all_jobs, hyperperiod}
 use Rattle.rules.specs.Timetable.{count, ValidTimetable}
 use Rattle.rules.specs.Setting.{Setting}
 use Rattle.rules.specs.Priority.{slot, start_job, all_started, setting_of}

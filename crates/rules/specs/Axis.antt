@@ -1,15 +1,14 @@
 -- The figures of an axis: document 02, R-4. Of the table image at the front of bytes; what stands behind its EN is left alone. Assumes nothing.
-use Rattle.std.specs.Prelude.{◌≡◌, List, [], ◌∷◌, ◌++◌, ℕ, ◌*◌, ◌+◌, length, take, ℤ, pos}
+use Rattle.std.specs.Prelude.{◌≡◌, List, [], ◌∷◌, ◌++◌, ℕ, ◌*◌, ◌+◌, length, take, ℤ, pos, Result}
 use Rattle.rules.specs.declared.Layout.{Layout}
 use Rattle.rules.specs.declared.Entry.{Entry}
-use Rattle.rules.specs.declared.AxisAnswer.{AxisAnswer}
-use Rattle.rules.specs.declared.AxisAnswer.TheVariants as axis_case
+use Rattle.rules.specs.declared.Located.{Located}
+use Rattle.rules.specs.declared.Axis.{Axis}
 use Rattle.rules.specs.Refusals.{Judged, gives, refuses, then}
 use Rattle.rules.specs.Tasks.{Set, limits, hyperperiod}
 use Rattle.rules.specs.Priority.{setting}
 use Rattle.rules.specs.Framing.{start_place, frame_records}
-use Rattle.rules.specs.Located.{located}
-use Rattle.rules.specs.Operations.{Timed, rebuilt, into, output_after}
+use Rattle.rules.specs.Operations.{Timed, rebuilt, answer_by, into, output_after}
 use Rattle.rules.specs.Several.{list_below}
 use Rattle.rules.specs.Ticks.{is_busy, is_forced, is_other, ticks_that}
 use Rattle.rules.specs.Lateness.{worst_lateness}
@@ -48,10 +47,9 @@ measured_into room bytes = then (measured bytes) (into room)
 
 -- the answer is how many figures there are, and how many bytes the image has; the figures fill the front of the output. A refusal is located in the image,
 -- and leaves the output as it was
-abbrev pub axis_answer : List ℕ → Judged (List ℤ) → AxisAnswer
-axis_answer image (gives figures) = axis_case.Measured (record { figures = length figures; used = length image })
-axis_answer image (refuses r) = axis_case.Refused (located image r)
+abbrev pub axis_answer : List ℕ → Judged (List ℤ) → Result Axis Located
+axis_answer image = answer_by (λ figures. record { figures = length figures; used = length image }) image
 
-pub record Measures (bytes : List ℕ) (old : List ℤ) (answered : AxisAnswer) (left : List ℤ) : Type 0 where
+pub record Measures (bytes : List ℕ) (old : List ℤ) (answered : Result Axis Located) (left : List ℤ) : Type 0 where
   pub answer : answered ≡ axis_answer (front bytes) (measured_into (length old) bytes)
   pub output : left ≡ output_after (measured_into (length old) bytes) old

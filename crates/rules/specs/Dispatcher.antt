@@ -1,6 +1,6 @@
 -- The dispatcher: document 01, "The dispatcher". Beginning and going on, for any bytes, any state and any reported end, with the state after each.
 -- Assumes nothing.
-use Rattle.std.specs.Prelude.{◌≡◌, Bool, true, false, List, [], ◌∷◌, ◌++◌, ℕ, zero, suc, ◌+◌, ◌*◌, ◌-◌, ltb, leb, eqb, length, replicate}
+use Rattle.std.specs.Prelude.{◌≡◌, Bool, true, false, List, [], ◌∷◌, ◌++◌, ℕ, zero, suc, ◌+◌, ◌*◌, ◌-◌, ltb, leb, eqb, length, replicate, Ok, Err}
 use Rattle.std.proofs.Math.Option.{Option, none, some}
 use Rattle.fields.specs.Body.{head₀, tail₀}
 use Rattle.rules.specs.declared.Task.{Task}
@@ -8,7 +8,6 @@ use Rattle.rules.specs.declared.TaskSet.{TaskSet}
 use Rattle.rules.specs.declared.Entry.{Entry}
 use Rattle.rules.specs.declared.Refusal.{Refusal}
 use Rattle.rules.specs.declared.Located.{Located}
-use Rattle.rules.specs.declared.StartAnswer.TheVariants.{Start, Refused}
 use Rattle.rules.specs.declared.Offsets.{Offsets as OffsetsOf}
 use Rattle.rules.specs.declared.Dispatcher.{Dispatcher as State}
 use Rattle.rules.specs.declared.Turn.{Turn}
@@ -147,7 +146,7 @@ abbrev pub latest_end : State → ℕ
 latest_end s = began s + (task (set_of s) s.running.task).time
 
 abbrev pub refused : Located → State → Turn
-refused r s = record { answer = Refused r; state = s }
+refused r s = record { answer = Err r; state = s }
 
 -- the first n slots of one list, then the slots of another
 abbrev pub front : ℕ → List ℕ → List ℕ → List ℕ
@@ -157,7 +156,7 @@ front (suc n) a b = head₀ a ∷ front n (tail₀ a) (tail₀ b)
 -- what the next start answers in cycle c, and the state after it
 abbrev pub started : List ℕ → State → ℕ → Standing (List ℕ) → NextStart → Turn
 started bytes s c a (next_is i t o) = record {
-  answer = Start (record { task = i; job = slot a.next i; cycle = c; time = c * hyperperiod (set_of s) + t });
+  answer = Ok (record { task = i; job = slot a.next i; cycle = c; time = c * hyperperiod (set_of s) + t });
   state = record {
     set = s.set;
     next = start_job a.next i;

@@ -1,13 +1,13 @@
 -- The order of the dispatcher's refusals and the state that each leaves: document 01, "The dispatcher". Each condition is a predicate of its own.
 -- Assumes nothing.
-use Rattle.std.specs.Prelude.{◌≡◌, List, [], ◌∷◌, ℕ, suc, ◌+◌, ◌≤◌, ◌<◌, length}
+use Rattle.std.specs.Prelude.{◌≡◌, List, [], ◌∷◌, ℕ, suc, ◌+◌, ◌≤◌, ◌<◌, length, Result, Ok, Err}
 use Rattle.std.proofs.Math.Option.{Option, none, some}
 use Rattle.rules.specs.declared.Idle.{Idle}
 use Rattle.rules.specs.declared.Inversion.{Inversion}
 use Rattle.rules.specs.declared.Refusal.{Refusal}
-use Rattle.rules.specs.declared.StartAnswer.{StartAnswer}
-use Rattle.rules.specs.declared.StartAnswer.TheVariants.{Start, Refused}
 use Rattle.rules.specs.declared.Dispatcher.{Dispatcher as State}
+use Rattle.rules.specs.declared.Located.{Located}
+use Rattle.rules.specs.declared.Start.{Start}
 use Rattle.rules.specs.Refusals.{Test, test}
 use Rattle.rules.specs.Tasks.{Set, limits, task, release, due, jobs, hyperperiod, GoodSet}
 use Rattle.rules.specs.Priority.{slot}
@@ -82,9 +82,9 @@ going_tests bytes s end =
     ∷ []
 
 -- the refusal of a start answer, if it is one
-abbrev pub start_refusal : StartAnswer → Option Refusal
-start_refusal (Start s) = none
-start_refusal (Refused r) = some (bare r)
+abbrev pub start_refusal : Result Start Located → Option Refusal
+start_refusal (Ok s) = none
+start_refusal (Err r) = some (bare r)
 
 -- the state that each refusal of going on leaves
 pub data Leaves (s : State) : ℕ → State → Type 0 where

@@ -1,11 +1,8 @@
 -- An intake: document 02, R-1. It collects fragments of a table image at the front of a lent buffer, and a closing call judges that front. Assumes nothing.
-use Rattle.std.specs.Prelude.{◌≡◌, List, [], ◌∷◌, ◌++◌, ℕ, leb, eqb, length, take}
-use Rattle.rules.specs.declared.CheckAnswer.{CheckAnswer}
-use Rattle.rules.specs.declared.CheckAnswer.TheVariants as check_case
-use Rattle.rules.specs.declared.MakeAnswer.{MakeAnswer}
-use Rattle.rules.specs.declared.MakeAnswer.TheVariants as make_case
+use Rattle.std.specs.Prelude.{◌≡◌, List, [], ◌∷◌, ◌++◌, ℕ, leb, eqb, length, take, Result, Ok, Err, ⊤}
 use Rattle.rules.specs.declared.Intake.{Intake}
 use Rattle.rules.specs.declared.Intake.TheVariants.{Shut, Open}
+use Rattle.rules.specs.declared.Located.{Located}
 use Rattle.rules.specs.Refusals.{Judged, gives, refuses, refusal, then, of_no_image}
 use Rattle.rules.specs.Timetable.{pick}
 use Rattle.rules.specs.Priority.{slot}
@@ -46,27 +43,27 @@ pub record Takes (k : Intake) (buffer fragment : List ℕ) (answered : Intake) (
   pub output : left ≡ output_after (joined k buffer fragment) buffer
 
 -- closing judges the bytes that are held as checking tables does, and answers the length of an image that is accepted
-abbrev pub accepted_length : ℕ → CheckAnswer → MakeAnswer
-accepted_length n check_case.Accepted = make_case.Made n
-accepted_length n (check_case.Refused r) = make_case.Refused r
+abbrev pub accepted_length : ℕ → Result ⊤ Located → Result ℕ Located
+accepted_length n (Ok tt) = Ok n
+accepted_length n (Err r) = Err r
 
-abbrev pub close_held : Judged (List ℕ) → MakeAnswer
+abbrev pub close_held : Judged (List ℕ) → Result ℕ Located
 close_held (gives bytes) = accepted_length (length bytes) (check_tables bytes)
-close_held (refuses r) = make_case.Refused (of_no_image r)
+close_held (refuses r) = Err (of_no_image r)
 
-abbrev pub close : Intake → List ℕ → MakeAnswer
+abbrev pub close : Intake → List ℕ → Result ℕ Located
 close k buffer = close_held (held k buffer)
 
 -- or it rebuilds them into an output
-abbrev pub rebuild_held : Judged (List ℕ) → List ℕ → MakeAnswer
+abbrev pub rebuild_held : Judged (List ℕ) → List ℕ → Result ℕ Located
 rebuild_held (gives bytes) old = rebuild bytes old
-rebuild_held (refuses r) old = make_case.Refused (of_no_image r)
+rebuild_held (refuses r) old = Err (of_no_image r)
 
 abbrev pub rebuild_held_output : Judged (List ℕ) → List ℕ → List ℕ
 rebuild_held_output (gives bytes) old = rebuild_output bytes old
 rebuild_held_output (refuses r) old = old
 
-pub record ClosesRebuilding (k : Intake) (buffer old : List ℕ) (answered : MakeAnswer) (left : List ℕ) : Type 0 where
+pub record ClosesRebuilding (k : Intake) (buffer old : List ℕ) (answered : Result ℕ Located) (left : List ℕ) : Type 0 where
   pub answer : answered ≡ rebuild_held (held k buffer) old
   pub output : left ≡ rebuild_held_output (held k buffer) old
 

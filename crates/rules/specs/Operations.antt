@@ -1,11 +1,8 @@
 -- The operations on images: document 01's checking, deriving and rebuilding, for any bytes and any lent output. Assumes nothing.
-use Rattle.std.specs.Prelude.{◌≡◌, List, ◌++◌, ℕ, leb, length, drop}
+use Rattle.std.specs.Prelude.{◌≡◌, List, ◌++◌, ℕ, leb, length, drop, Result, Ok, Err, ⊤}
 use Rattle.rules.specs.declared.Layout.{Layout}
 use Rattle.rules.specs.declared.Entry.{Entry}
-use Rattle.rules.specs.declared.CheckAnswer.{CheckAnswer}
-use Rattle.rules.specs.declared.CheckAnswer.TheVariants as check_case
-use Rattle.rules.specs.declared.MakeAnswer.{MakeAnswer}
-use Rattle.rules.specs.declared.MakeAnswer.TheVariants as make_case
+use Rattle.rules.specs.declared.Located.{Located}
 use Rattle.rules.specs.Tasks.{Set}
 use Rattle.rules.specs.Refusals.{Judged, gives, refuses, or_else, then, unless}
 use Rattle.rules.specs.Setting.{Tables}
@@ -42,15 +39,19 @@ derived bytes = then (read_timetable bytes) derive_from
 abbrev pub rebuilt : List ℕ → Judged Timed
 rebuilt bytes = then (read_tables bytes) rebuild_from
 
--- plain checking has no output; the refusal of an image is located in its bytes
-abbrev pub check_answer : {A : Type 0} → List ℕ → Judged A → CheckAnswer
-check_answer bytes (gives a) = check_case.Accepted
-check_answer bytes (refuses r) = check_case.Refused (located bytes r)
+-- what judging an image came to is answered: of a value what it says, and a refusal located in the image's bytes
+abbrev pub answer_by : {A B : Type 0} → (A → B) → List ℕ → Judged A → Result B Located
+answer_by says bytes (gives a) = Ok (says a)
+answer_by says bytes (refuses r) = Err (located bytes r)
 
-unfoldable pub check_timetable : List ℕ → CheckAnswer
+-- plain checking has no output
+abbrev pub check_answer : {A : Type 0} → List ℕ → Judged A → Result ⊤ Located
+check_answer = answer_by (λ _. tt)
+
+unfoldable pub check_timetable : List ℕ → Result ⊤ Located
 check_timetable bytes = check_answer bytes (derived bytes)
 
-unfoldable pub check_tables : List ℕ → CheckAnswer
+unfoldable pub check_tables : List ℕ → Result ⊤ Located
 check_tables bytes = check_answer bytes (rebuilt bytes)
 
 -- a result into an output with room for so many bytes or numbers: last, 20
@@ -71,31 +72,30 @@ abbrev pub rebuilt_image : ℕ → List ℕ → Judged (List ℕ)
 rebuilt_image room bytes = then (rebuilt bytes) (write_timetable room)
 
 -- the answer is the result's length; the result fills the front of the output, and later bytes, and all bytes on a refusal, keep their values
-abbrev pub make_answer : List ℕ → Judged (List ℕ) → MakeAnswer
-make_answer bytes (gives result) = make_case.Made (length result)
-make_answer bytes (refuses r) = make_case.Refused (located bytes r)
+abbrev pub make_answer : List ℕ → Judged (List ℕ) → Result ℕ Located
+make_answer = answer_by length
 
 abbrev pub output_after : {A : Type 0} → Judged (List A) → List A → List A
 output_after (gives result) old = result ++ drop (length result) old
 output_after (refuses r) old = old
 
-unfoldable pub derive : List ℕ → List ℕ → MakeAnswer
+unfoldable pub derive : List ℕ → List ℕ → Result ℕ Located
 derive bytes old = make_answer bytes (derived_image (length old) bytes)
 
 unfoldable pub derive_output : List ℕ → List ℕ → List ℕ
 derive_output bytes old = output_after (derived_image (length old) bytes) old
 
-unfoldable pub rebuild : List ℕ → List ℕ → MakeAnswer
+unfoldable pub rebuild : List ℕ → List ℕ → Result ℕ Located
 rebuild bytes old = make_answer bytes (rebuilt_image (length old) bytes)
 
 unfoldable pub rebuild_output : List ℕ → List ℕ → List ℕ
 rebuild_output bytes old = output_after (rebuilt_image (length old) bytes) old
 
 -- what deriving answers and leaves in the output, and what rebuilding does
-pub record Derives (bytes old : List ℕ) (answered : MakeAnswer) (left : List ℕ) : Type 0 where
+pub record Derives (bytes old : List ℕ) (answered : Result ℕ Located) (left : List ℕ) : Type 0 where
   pub answer : answered ≡ derive bytes old
   pub output : left ≡ derive_output bytes old
 
-pub record Rebuilds (bytes old : List ℕ) (answered : MakeAnswer) (left : List ℕ) : Type 0 where
+pub record Rebuilds (bytes old : List ℕ) (answered : Result ℕ Located) (left : List ℕ) : Type 0 where
   pub answer : answered ≡ rebuild bytes old
   pub output : left ≡ rebuild_output bytes old

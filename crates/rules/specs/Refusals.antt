@@ -1,21 +1,14 @@
 -- Refusals: document 01, "Refusal numbers". How a refusal is made, which of several comes first, and the number and values that each answer tells.
 -- Assumes nothing.
-use Rattle.std.specs.Prelude.{Bool, true, false, List, [], ◌∷◌, ◌++◌, ℕ, zero, suc}
+use Rattle.std.specs.Prelude.{Bool, true, false, List, [], ◌∷◌, ◌++◌, ℕ, zero, suc, Result, Ok, Err, ⊤}
 use Rattle.std.proofs.Math.Option.{Option, none, some}
 use Rattle.rules.specs.declared.Refusal.{Refusal}
 use Rattle.rules.specs.declared.Located.{Located}
-use Rattle.rules.specs.declared.SetAnswer.{SetAnswer}
-use Rattle.rules.specs.declared.SetAnswer.TheVariants as set_case
-use Rattle.rules.specs.declared.CheckAnswer.{CheckAnswer}
-use Rattle.rules.specs.declared.CheckAnswer.TheVariants as check_case
-use Rattle.rules.specs.declared.MakeAnswer.{MakeAnswer}
-use Rattle.rules.specs.declared.MakeAnswer.TheVariants as make_case
-use Rattle.rules.specs.declared.AxisAnswer.{AxisAnswer}
-use Rattle.rules.specs.declared.AxisAnswer.TheVariants as axis_case
 use Rattle.rules.specs.declared.Intake.{Intake}
 use Rattle.rules.specs.declared.Intake.TheVariants as intake_case
-use Rattle.rules.specs.declared.StartAnswer.{StartAnswer}
-use Rattle.rules.specs.declared.StartAnswer.TheVariants as start_case
+use Rattle.rules.specs.declared.Figures.{Figures}
+use Rattle.rules.specs.declared.Axis.{Axis}
+use Rattle.rules.specs.declared.Start.{Start}
 
 -- a refusal is its number and its place
 abbrev pub refusal : ℕ → ℕ → Refusal
@@ -88,19 +81,22 @@ abbrev pub of_no_image : Refusal → Located
 of_no_image r = record { number = r.number; place = r.place; offset = 0 }
 
 -- judging a set tells the hyperperiod and the number of jobs
-abbrev pub set_tells : SetAnswer → Told
-set_tells (set_case.Good f) = tells (f.hyperperiod ∷ f.jobs ∷ [])
-set_tells (set_case.Refused r) = tells_refusal (of_no_image r)
+abbrev pub set_tells : Result Figures Refusal → Told
+set_tells (Ok f) = tells (f.hyperperiod ∷ f.jobs ∷ [])
+set_tells (Err r) = tells_refusal (of_no_image r)
+
+-- an operation on an image tells the values of what it answers, or its refusal
+abbrev pub answer_tells : {A : Type 0} → (A → List ℕ) → Result A Located → Told
+answer_tells values (Ok a) = tells (values a)
+answer_tells values (Err r) = tells_refusal r
 
 -- plain checking has no values
-abbrev pub check_tells : CheckAnswer → Told
-check_tells check_case.Accepted = tells []
-check_tells (check_case.Refused r) = tells_refusal r
+abbrev pub check_tells : Result ⊤ Located → Told
+check_tells = answer_tells (λ _. [])
 
 -- deriving and rebuilding tell the length of the result
-abbrev pub make_tells : MakeAnswer → Told
-make_tells (make_case.Made length) = tells (length ∷ [])
-make_tells (make_case.Refused r) = tells_refusal r
+abbrev pub make_tells : Result ℕ Located → Told
+make_tells = answer_tells (λ length. length ∷ [])
 
 -- taking a fragment tells how many bytes are taken by then; an intake that is shut after it has refused it, with 20
 abbrev pub take_tells : Intake → Told
@@ -108,11 +104,9 @@ take_tells (intake_case.Open count) = tells (count ∷ [])
 take_tells intake_case.Shut = tells_refusal (of_no_image (refusal 20 0))
 
 -- measuring an axis tells how many figures it has and how many bytes its image
-abbrev pub axis_tells : AxisAnswer → Told
-axis_tells (axis_case.Measured a) = tells (a.figures ∷ a.used ∷ [])
-axis_tells (axis_case.Refused r) = tells_refusal r
+abbrev pub axis_tells : Result Axis Located → Told
+axis_tells = answer_tells (λ (a : Axis). a.figures ∷ a.used ∷ [])
 
 -- the dispatcher tells task, job, cycle and absolute time
-abbrev pub start_tells : StartAnswer → Told
-start_tells (start_case.Start s) = tells (s.task ∷ s.job ∷ s.cycle ∷ s.time ∷ [])
-start_tells (start_case.Refused r) = tells_refusal r
+abbrev pub start_tells : Result Start Located → Told
+start_tells = answer_tells (λ (s : Start). s.task ∷ s.job ∷ s.cycle ∷ s.time ∷ [])

@@ -1,13 +1,11 @@
 -- Task sets: document 01, "Task sets". A good set as the list of its rules, and the first fault of a set. Assumes nothing.
-use Rattle.std.specs.Prelude.{Bool, true, false, List, [], ◌∷◌, ◌++◌, ℕ, zero, suc, ◌+◌, ◌*◌, ◌/◌, ◌%◌, min, max, ◌≤◌, ◌<◌, leb, length, get_or, take}
+use Rattle.std.specs.Prelude.{Bool, true, false, List, [], ◌∷◌, ◌++◌, ℕ, zero, suc, ◌+◌, ◌*◌, ◌/◌, ◌%◌, min, max, ◌≤◌, ◌<◌, leb, length, get_or, take, Result, Ok, Err}
 use Rattle.std.proofs.Math.Option.{Option, none}
 use Rattle.std.specs.Int.{◌∣◌}
 use Rattle.rules.specs.declared.Task.{Task}
 use Rattle.rules.specs.declared.TaskSet.{TaskSet}
 use Rattle.rules.specs.declared.Refusal.{Refusal}
 use Rattle.rules.specs.declared.Figures.{Figures}
-use Rattle.rules.specs.declared.SetAnswer.{SetAnswer}
-use Rattle.rules.specs.declared.SetAnswer.TheVariants.{Good, Refused}
 use Rattle.rules.specs.Refusals.{Judged, gives, refuses, or_else, first, unless, Test, test, in_turn}
 
 -- the limits: tasks of a set, ticks of a cycle, jobs of a cycle
@@ -169,10 +167,10 @@ abbrev pub memory_tests : TaskSet → List Test
 memory_tests s = test 5 0 ((1 ≤ s.n) × (s.n ≤ limits.tasks) → ⊥) ∷ set_tests (memory_set s)
 
 -- what was judged, as the answer
-abbrev pub set_answer : Judged Figures → SetAnswer
-set_answer (gives f) = Good f
-set_answer (refuses r) = Refused r
+abbrev pub set_answer : Judged Figures → Result Figures Refusal
+set_answer (gives f) = Ok f
+set_answer (refuses r) = Err r
 
 -- judging a set in memory
-unfoldable pub judge_set : TaskSet → SetAnswer
+unfoldable pub judge_set : TaskSet → Result Figures Refusal
 judge_set s = set_answer (or_else (memory_fault s) (gives (figures (memory_set s))))

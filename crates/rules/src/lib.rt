@@ -65,7 +65,8 @@ pub struct Refusal {
     pub place: usize,
 }
 
-// The refusal of an image, located in its bytes: its number, its place, and the byte offset of the record that the place names, 0 where it names none.
+// The refusal of an image, located in its bytes: its number, its place, and the byte offset of the record that the place names, 0 where it names none. Plain
+// checking answers Result<(), Located>; deriving and rebuilding Result<usize, Located>, the length of what now fills the front of the output.
 #[derive(Clone, Copy)]
 pub struct Located {
     pub number: u32,
@@ -109,46 +110,18 @@ pub struct Layout {
     pub ended: usize,
 }
 
-// What a good set comes to: its hyperperiod and its jobs a cycle.
+// What a good set comes to: its hyperperiod and its jobs a cycle. Judging a set answers Result<Figures, Refusal>.
 #[derive(Clone, Copy)]
 pub struct Figures {
     pub hyperperiod: u32,
     pub jobs: u32,
 }
 
-// Judging a set.
-#[derive(Clone, Copy)]
-pub enum SetAnswer {
-    Good(Figures),
-    Refused(Refusal),
-}
-
-// Plain checking of an image.
-#[derive(Clone, Copy)]
-pub enum CheckAnswer {
-    Accepted,
-    Refused(Located),
-}
-
-// Deriving and rebuilding: the length of what now fills the front of the output.
-#[derive(Clone, Copy)]
-pub enum MakeAnswer {
-    Made(usize),
-    Refused(Located),
-}
-
-// What is told of an axis: how many figures it has, and how many bytes its image.
+// What is told of an axis: how many figures it has, and how many bytes its image. Measuring the image at the front answers Result<Axis, Located>.
 #[derive(Clone, Copy)]
 pub struct Axis {
     pub figures: usize,
     pub used: usize,
-}
-
-// The figures of the image at the front.
-#[derive(Clone, Copy)]
-pub enum AxisAnswer {
-    Measured(Axis),
-    Refused(Located),
 }
 
 // An intake of fragments: shut, or open with so many bytes taken.
@@ -158,20 +131,13 @@ pub enum Intake {
     Open(usize),
 }
 
-// A job that starts now: its cycle and absolute time.
+// A job that starts now: its cycle and absolute time. Beginning and going on answer Result<Start, Located>.
 #[derive(Clone, Copy)]
 pub struct Start {
     pub task: u32,
     pub job: u32,
     pub cycle: u32,
     pub time: u64,
-}
-
-// Beginning and going on.
-#[derive(Clone, Copy)]
-pub enum StartAnswer {
-    Start(Start),
-    Refused(Located),
 }
 
 // Byte offsets into the image: of the ID to be used next and, for each task, of its next PV.
@@ -206,6 +172,6 @@ pub struct Dispatcher {
 // What a call of the dispatcher hands back: the answer, and the state beside it.
 #[derive(Clone, Copy)]
 pub struct Turn {
-    pub answer: StartAnswer,
+    pub answer: Result<Start, Located>,
     pub state: Dispatcher,
 }

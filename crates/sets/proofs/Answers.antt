@@ -7,11 +7,11 @@ use native.Mathlib.Omega.{arith}
 use borrow.Author.Tests.{le-leb, lt-leb}
 use lib.Dec.{leb}
 use lib.ListN.{length, length-take}
+use Rattle.std.specs.Prelude.{Err}
 use Rattle.rules.specs.declared.Task.{Task}
 use Rattle.rules.specs.declared.TaskSet.{TaskSet}
 use Rattle.rules.specs.declared.Figures.{Figures}
 use Rattle.rules.specs.declared.Refusal.{Refusal}
-use Rattle.rules.specs.declared.SetAnswer.TheVariants.{Refused}
 use Rattle.rules.specs.Refusals.{refusal, gives, or_else, first, unless}
 use Rattle.rules.specs.Tasks.{limits, KeepsItsRule, GoodSet, sum_of_jobs, hyperperiod, memory_set, few_enough, tasks_fault, figures, set_answer, judge_set, memory_fault}
 use Rattle.rules.proofs.Cases.{by_le, by_option, both_in, clash}
@@ -23,12 +23,12 @@ use Rattle.sets.proofs.Faults.{own_rules, periods_rise}
 
 module _ (s : TaskSet) where
   -- no task
-  pub refused_empty : s.n < 1 → Refused (refusal 5 0) ≡ judge_set s
+  pub refused_empty : s.n < 1 → judge_set s ≡ Err (refusal 5 0)
   unfolding judge_set
   refused_empty l = rw (lt-leb 1 s.n l)
 
   -- more tasks than slots
-  pub refused_crowded : 1 ≤ s.n → limits.tasks < s.n → Refused (refusal 5 0) ≡ judge_set s
+  pub refused_crowded : 1 ≤ s.n → limits.tasks < s.n → judge_set s ≡ Err (refusal 5 0)
   unfolding judge_set
   refused_crowded l m = rw (le-leb 1 s.n l, lt-leb s.n limits.tasks m)
 
@@ -60,15 +60,15 @@ module _ {s : TaskSet} (m : InSlots s) where
       rw (few, size, few)
 
   -- a task's fault
-  pub refused_task : (r : Refusal) → tasks_fault 1 0 (first_tasks s) ≡ some r → Refused r ≡ judge_set s
-  refused_task r e = sym (judged ∙ rw e)
+  pub refused_task : (r : Refusal) → tasks_fault 1 0 (first_tasks s) ≡ some r → judge_set s ≡ Err r
+  refused_task r e = judged ∙ rw e
 
   -- a hyperperiod above the limit: no task has a fault, and yet there is no cycle
-  pub refused_long : tasks_fault 1 0 (first_tasks s) ≡ none → ((h : ℕ) → HasCycle s h → ⊥) → Refused (refusal 8 0) ≡ judge_set s
+  pub refused_long : tasks_fault 1 0 (first_tasks s) ≡ none → ((h : ℕ) → HasCycle s h → ⊥) → judge_set s ≡ Err (refusal 8 0)
   refused_long no_fault no_cycle =
       by_le (hyperperiod (memory_set s)) limits.ticks
       (λ l. absurd (no_cycle _ (record { in_slots = m; faultless = no_fault; ticks = hyperperiod_is (memory_set s) (positive s no_fault); short = l })))
-      (λ above. sym (judged ∙ rw (no_fault, lt-leb _ limits.ticks above)))
+      (λ above. judged ∙ rw (no_fault, lt-leb _ limits.ticks above))
 
 -- a set that has a cycle is judged by its jobs
 pub by_jobs : {s : TaskSet} {h : ℕ} → HasCycle s h → (k : ℕ) → k ≡ sum_of_jobs h (first_tasks s) → limited h k ≡ judge_set s
@@ -95,7 +95,7 @@ pub good_cycle : {s : TaskSet} {h : ℕ} {f : Figures} → HasCycle s h → Good
 good_cycle {s} {h} {f} c g = rw (one_hyperperiod c.ticks g.good.is_hyperperiod) g.good
 
 -- a set that is refused has that fault
-pub refused_fault : (s : TaskSet) (r : Refusal) → Refused r ≡ judge_set s → memory_fault s ≡ some r
+pub refused_fault : (s : TaskSet) (r : Refusal) → judge_set s ≡ Err r → memory_fault s ≡ some r
 unfolding judge_set
 refused_fault s r e =
     by_option (memory_fault s) (λ z. clash (let y = rw z at e in cc)) (λ q z. z ∙ (let y = rw z at e in cc))

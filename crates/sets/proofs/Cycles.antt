@@ -1,13 +1,14 @@
 -- The cycle and the jobs of the first n tasks, worked out from the last task to the first. Assumes nothing.
 use mathlib.Core.Path.{◌≡◌, sym, ◌∙◌, ap}
-use mathlib.Core.Bool.{Bool, true, false, not}
+use mathlib.Core.Bool.{true, false}
 use mathlib.Core.List.{List, [], ◌∷◌}
 use mathlib.Core.Option.{none}
 use Prim.Native.Nat.{ℕ, suc, ◌+◌, ◌*◌, ◌/◌, ◌-◌, ◌≤◌, ◌<◌, ◌∣◌}
 use native.Mathlib.Omega.{arith}
 use native.Mathlib.Nat.{div-le_self, div-zero, dvd_refl, le_of_dvd}
 use lib.ListN.{length, take, drop}
-use borrow.Author.Tests.{le-leb, not-true, not-false}
+use borrow.Author.Tests.{le-leb}
+use Rattle.std.specs.Prelude.{Some}
 use Rattle.rules.specs.declared.Task.{Task}
 use Rattle.rules.specs.declared.TaskSet.{TaskSet}
 use Rattle.rules.specs.Tasks.{limits, set_with, jobs, sum_of_jobs, IsLeastMultiple, IsHyperperiod, memory_set, keeps_its_rule, tasks_fault}
@@ -22,7 +23,6 @@ use Rattle.sets.proofs.Answers.{cycle_positive, cycle_rules, cycle_order}
 -- h is the hyperperiod of the first n tasks from place i on, and up to the limit; the period after, the first of them, divides it; and they have no fault
 -- behind a period up to it
 pub record CycleFrom (slots : List Task) (n i after h : ℕ) : Type 0 where
-  pub place : i < n
   pub room : n ≤ length slots
   pub some_ticks : 1 ≤ h
   pub short : h ≤ limits.ticks
@@ -31,15 +31,15 @@ pub record CycleFrom (slots : List Task) (n i after h : ℕ) : Type 0 where
   pub is : IsHyperperiod (set_with (drop i (take n slots))) h
   pub ordered : (place before : ℕ) → before ≤ after → tasks_fault place before (drop i (take n slots)) ≡ none
 
--- a task that passed the test of its own rule, as it was told, has a period of at least 1
-pub tested_period : (t : Task) (kept : Bool) → kept ≡ keeps_its_rule t → not kept ≡ false → 1 ≤ t.period
-tested_period t kept is b = let r = task_keeps t (sym is ∙ not-false kept b) in omega arith
+-- a task that keeps its own rule has a period of at least 1
+pub tested_period : (t : Task) → true ≡ keeps_its_rule t → 1 ≤ t.period
+tested_period t kept = let r = task_keeps t (sym kept) in omega arith
 
 -- what a set with a cycle has, at the task before a place
 module _ {s : TaskSet} {m : ℕ} (g : HasCycle s m) (i : ℕ) (p : 0 < i) (l : i ≤ s.n) (t : Task) (here : t ≡ slot s.tasks (i - 1)) where
   -- it keeps its own rule
-  pub not_broken_before : (kept : Bool) → kept ≡ keeps_its_rule t → not kept ≡ true → ⊥
-  not_broken_before kept is b = differ (sym (keeps_task t (cycle_rules g t (i - 1) (omega arith) here)) ∙ sym is ∙ not-true kept b)
+  pub not_broken_before : false ≡ keeps_its_rule t → ⊥
+  not_broken_before broken = differ (sym (keeps_task t (cycle_rules g t (i - 1) (omega arith) here)) ∙ sym broken)
 
   -- its period is not above that of the next
   pub not_falling_before : (after : ℕ) → i < s.n → after ≡ (slot s.tasks i).period → after < t.period → ⊥
@@ -61,40 +61,37 @@ module _ (slots : List Task) (n : ℕ) (p : 0 < n) (room : n ≤ length slots) (
   last_alone : drop (n - 1) (take n slots) ≡ t ∷ []
   last_alone = one_more slots n n room t p (omega arith) here ∙ rw (none_left slots n n (omega arith))
 
-  pub cycle_starts : (kept : Bool) → kept ≡ keeps_its_rule t → not kept ≡ false → t.period ≤ limits.ticks → CycleFrom slots n (n - 1) t.period t.period
-  cycle_starts kept is b l = record {
-    place = omega arith;
+  pub cycle_starts : true ≡ keeps_its_rule t → t.period ≤ limits.ticks → CycleFrom slots n (n - 1) t.period t.period
+  cycle_starts kept l = record {
     room = room;
-    some_ticks = tested_period t kept is b;
+    some_ticks = tested_period t kept;
     short = l;
     next = ap (λ (u : Task). u.period) here;
     divides = dvd_refl t.period;
     is = rw last_alone (one_period t);
-    ordered = λ place before low. rw (last_alone, ← is, not-false kept b, le-leb before t.period low);
+    ordered = λ place before low. rw (last_alone, ← kept, le-leb before t.period low);
   }
 
 -- the task before
-module _ {slots : List Task} {n i after h : ℕ} (c : CycleFrom slots n i after h) (p : 0 < i) (t : Task) (here : t ≡ slot slots (i - 1))
-    (kept : Bool) (is : kept ≡ keeps_its_rule t) (b : not kept ≡ false) where
+module _ {slots : List Task} {n i after h : ℕ} (c : CycleFrom slots n i after h) (p : 0 < i) (l : i < n) (t : Task) (here : t ≡ slot slots (i - 1)) (kept : true ≡ keeps_its_rule t) where
   -- with its period, not above the one after it, h goes on to the least common multiple where that is up to the limit
-  pub cycle_more : (r : ℕ) → MultipleTold t.period h r → r ≤ limits.ticks → t.period ≤ after → CycleFrom slots n (i - 1) t.period r
-  cycle_more r m l low =
-      let same : r ≡ m.multiple = m.told ∙ told_within _ (omega (arith, m.told)) in
-      let front = one_more slots n i c.room t p (omega (arith, c.place)) here in
+  pub cycle_more : (r : ℕ) → MultipleTold t.period h (Some r) → t.period ≤ after → CycleFrom slots n (i - 1) t.period r
+  cycle_more r m low =
+      let told = told_within m.multiple r m.told in
+      let front = one_more slots n i c.room t p (omega arith) here in
       record {
-        place = omega (arith, c.place);
         room = c.room;
-        some_ticks = omega (arith, multiple_positive (tested_period t kept is b) c.some_ticks m.is);
-        short = l;
+        some_ticks = omega (arith, told, multiple_positive (tested_period t kept) c.some_ticks m.is);
+        short = omega (arith, told);
         next = ap (λ (u : Task). u.period) here;
-        divides = rw same m.is.left;
-        is = rw (front, same) (one_period_more t c.is m.is);
-        ordered = λ place before k. rw (front, ← is, not-false kept b, le-leb before t.period k) (c.ordered (suc place) t.period low);
+        divides = rw told.0 m.is.left;
+        is = rw (front, told.0) (one_period_more t c.is m.is);
+        ordered = λ place before k. rw (front, ← kept, le-leb before t.period k) (c.ordered (suc place) t.period low);
       }
 
   -- it stays where the period is the one after it
   pub cycle_same : t.period ≡ after → CycleFrom slots n (i - 1) after h
-  cycle_same e = rw e at (cycle_more h (multiple_told (rw e c.divides) c.short) c.short (omega arith))
+  cycle_same e = rw e at (cycle_more h (multiple_told (rw e c.divides) c.short) (omega arith))
 
 -- the last task's period is not above the limit where the set has a cycle
 pub last_not_long : {s : TaskSet} {m : ℕ} → HasCycle s m → (t : Task) → t ≡ slot s.tasks (s.n - 1) → limits.ticks < t.period → ⊥
@@ -115,7 +112,6 @@ cycle_ends {s} {i} {after} {h} m c z = record {
 
 -- sum is the jobs of the first n tasks from place i on, which leaves room for those of i tasks more; many are the jobs of a task with the period after
 pub record JobsFrom (h : ℕ) (slots : List Task) (n i sum after many : ℕ) : Type 0 where
-  pub place : i ≤ n
   pub room : n ≤ length slots
   pub leaves_room : sum + limits.ticks * i ≤ limits.ticks * limits.tasks
   pub is : sum ≡ sum_of_jobs h (drop i (take n slots))
@@ -124,7 +120,6 @@ pub record JobsFrom (h : ℕ) (slots : List Task) (n i sum after many : ℕ) : T
 -- after the last task there are none
 pub jobs_start : (h : ℕ) (slots : List Task) (n : ℕ) → n ≤ length slots → n ≤ limits.tasks → JobsFrom h slots n n 0 0 0
 jobs_start h slots n room few = record {
-  place = omega arith;
   room = room;
   leaves_room = omega arith;
   is = rw (none_left slots n n (omega arith));
@@ -132,14 +127,13 @@ jobs_start h slots n room few = record {
 }
 
 -- the task before adds its own
-pub jobs_more : {h : ℕ} {slots : List Task} {n i sum after many : ℕ} → JobsFrom h slots n i sum after many → 0 < i → h ≤ limits.ticks →
+pub jobs_more : {h : ℕ} {slots : List Task} {n i sum after many : ℕ} → JobsFrom h slots n i sum after many → 0 < i → i ≤ n → h ≤ limits.ticks →
     (t : Task) → t ≡ slot slots (i - 1) → (now r : ℕ) → now ≡ t.period → r ≡ jobs h t → JobsFrom h slots n (i - 1) (sum + r) now r
-jobs_more {h} {slots} {n} {i} {sum} {after} {many} j p l t here now r same e =
+jobs_more {h} {slots} {n} {i} {sum} {after} {many} j p inside l t here now r same e =
     let few = div-le_self h t.period in
     record {
-      place = omega arith;
       room = j.room;
       leaves_room = omega arith;
-      is = rw (one_more slots n i j.room t p j.place here) (omega arith);
+      is = rw (one_more slots n i j.room t p inside here) (omega arith);
       each = rw same e;
     }

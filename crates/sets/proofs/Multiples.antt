@@ -1,32 +1,33 @@
 -- The least common multiple of two numbers by their greatest common divisor, and that by remainders; a number of ticks up to the limit. Assumes nothing.
 use mathlib.Core.Path.{◌≡◌, sym, ◌∙◌}
-use Prim.Native.Nat.{ℕ, suc, ◌*◌, ◌/◌, ◌%◌, ◌≤◌, ◌<◌, ◌∣◌}
+use Prim.Native.Nat.{ℕ, ◌*◌, ◌/◌, ◌%◌, ◌≤◌, ◌<◌, ◌∣◌}
 use native.Mathlib.Omega.{arith}
 use native.Mathlib.Nat.{dvd_refl, dvd-zero, dvd_trans, dvd-mul_left, dvd-mul_right, dvd-mod_iff, mul-dvd-mul_left, mul-dvd-mul_right, dvd_of_mul-dvd-mul_left, dvd_of_mul-dvd-mul_right, pos_of_dvd_of_pos, div-mul_cancel, mul-div_cancel', mul_assoc, mul_comm, div-le_self, mul-le-mul}
 use borrow.Author.Tests.{le-leb, lt-leb}
 use Rattle.rules.specs.Tasks.{limits, IsLeastMultiple}
-use Rattle.rules.proofs.Cases.{by_le}
+use Rattle.std.specs.Prelude.{Some, None}
+use Rattle.rules.proofs.Cases.{by_le, clash}
 use Rattle.rules.proofs.Hyperperiod.{have_multiple, of_multiple}
 use Rattle.sets.specs.Sets.{capped, IsGreatestDivisor, MultipleTold}
 
--- a number up to the limit is told as it is
-pub capped_within : (h : ℕ) → h ≤ limits.ticks → h ≡ capped h
+-- a number up to the limit is told
+pub capped_within : (h : ℕ) → h ≤ limits.ticks → Some h ≡ capped h
 capped_within h l = simp (le-leb h limits.ticks l)
 
--- a number above the limit is told as one more than the limit
-pub capped_above : (h : ℕ) → limits.ticks < h → suc limits.ticks ≡ capped h
+-- a number above the limit is not
+pub capped_above : (h : ℕ) → limits.ticks < h → None ≡ capped h
 capped_above h l = simp (lt-leb h limits.ticks l)
 
--- a number told as up to the limit is told as it is
-pub told_within : (h : ℕ) → capped h ≤ limits.ticks → capped h ≡ h
-told_within h within = by_le h limits.ticks (λ l. sym (capped_within h l)) (λ a. absurd (omega (arith, capped_above h a)))
+-- what is told is the number, up to the limit
+pub told_within : (h r : ℕ) → Some r ≡ capped h → (r ≡ h) × (h ≤ limits.ticks)
+told_within h r e = by_le h limits.ticks (λ l. (cc (capped_within h l), l)) (λ a. clash (cc (capped_above h a)))
 
--- a number told as above the limit is above it
-pub told_long : (h : ℕ) → limits.ticks < capped h → limits.ticks < h
-told_long h above = by_le h limits.ticks (λ l. absurd (omega (arith, capped_within h l))) (λ a. a)
+-- where nothing is told it is above the limit
+pub told_long : (h : ℕ) → None ≡ capped h → limits.ticks < h
+told_long h e = by_le h limits.ticks (λ l. clash (cc (capped_within h l))) (λ a. a)
 
 -- of a number and a multiple of it up to the limit, that multiple is told
-pub multiple_told : {a b : ℕ} → a ∣ b → b ≤ limits.ticks → MultipleTold a b b
+pub multiple_told : {a b : ℕ} → a ∣ b → b ≤ limits.ticks → MultipleTold a b (Some b)
 multiple_told {a} {b} d l = record { multiple = b; is = of_multiple d; told = capped_within b l }
 
 -- a quotient of a number up to the limit times another fits 32 bits

@@ -6,11 +6,10 @@ use mathlib.Core.Option.{none, some}
 use Prim.Native.Nat.{ℕ}
 use borrow.Author.Tests.{leb-true, le-leb}
 use lib.Dec.{leb}
+use Rattle.std.specs.Prelude.{Result, Ok, Err}
 use Rattle.rules.specs.declared.TaskSet.{TaskSet}
 use Rattle.rules.specs.declared.Figures.{Figures}
 use Rattle.rules.specs.declared.Refusal.{Refusal}
-use Rattle.rules.specs.declared.SetAnswer.{SetAnswer}
-use Rattle.rules.specs.declared.SetAnswer.TheVariants.{Good, Refused}
 use Rattle.rules.specs.Refusals.{First, unless}
 use Rattle.rules.specs.Tasks.{limits, all_jobs, hyperperiod, few_enough, set_fault, figures, memory_set, memory_fault, memory_tests, judge_set}
 use Rattle.rules.proofs.Cases.{by_option, clash, both_true, both_in, first_none, unless_none}
@@ -19,17 +18,17 @@ use Rattle.rules.proofs.GoodSets.{good_set, set_good, memory_order}
 use Rattle.sets.specs.Sets.{GoodInMemory}
 
 -- the contract leaves one answer
-pub one_answer : (s : TaskSet) (a b : SetAnswer) → a ≡ judge_set s → b ≡ judge_set s → a ≡ b
+pub one_answer : (s : TaskSet) (a b : Result Figures Refusal) → a ≡ judge_set s → b ≡ judge_set s → a ≡ b
 one_answer s a b p q = p ∙ sym q
 
 module _ (s : TaskSet) where
   -- with no fault the answer is the figures
-  passes : memory_fault s ≡ none → judge_set s ≡ Good (figures (memory_set s))
+  passes : memory_fault s ≡ none → judge_set s ≡ Ok (figures (memory_set s))
   unfolding judge_set
   passes e = rw e
 
   -- with a fault it is the fault
-  fails : (r : Refusal) → memory_fault s ≡ some r → judge_set s ≡ Refused r
+  fails : (r : Refusal) → memory_fault s ≡ some r → judge_set s ≡ Err r
   unfolding judge_set
   fails r e = rw e
 
@@ -53,9 +52,9 @@ module _ (s : TaskSet) where
       let same : f.jobs ≡ all_jobs (hyperperiod (memory_set s)) (memory_set s) = rw (← e.1) g.counted in
       (rw few e.0, ap₂ (λ (h k : ℕ). record { hyperperiod = h; jobs = k }) e.1 same)
 
-module _ (s : TaskSet) (a : SetAnswer) (met : a ≡ judge_set s) where
-  -- the answer is Good with figures exactly where the set is good and these are its figures
-  pub good_exactly : (f : Figures) → (a ≡ Good f) ↔ GoodInMemory s f
+module _ (s : TaskSet) (a : Result Figures Refusal) (met : a ≡ judge_set s) where
+  -- the answer is those figures exactly where the set is good and these are its figures
+  pub good_exactly : (f : Figures) → (a ≡ Ok f) ↔ GoodInMemory s f
   good_exactly f = (
     λ e. by_option (memory_fault s)
         (λ z. let y : figures (memory_set s) ≡ f = cc (passes s z) in rw y at (faultless s z))
@@ -64,7 +63,7 @@ module _ (s : TaskSet) (a : SetAnswer) (met : a ≡ judge_set s) where
   )
 
   -- it is a refusal exactly where that is the first of the document's tests that refuses
-  pub refused_exactly : (r : Refusal) → (a ≡ Refused r) ↔ First (memory_tests s) (some r)
+  pub refused_exactly : (r : Refusal) → (a ≡ Err r) ↔ First (memory_tests s) (some r)
   refused_exactly r = (
     λ e.
         let z : memory_fault s ≡ some r = by_option (memory_fault s) (λ z. clash (cc (passes s z))) (λ q z. cc (fails s q z)) in

@@ -1,52 +1,65 @@
--- Scans of slots: their turns, and what they find. Assumes nothing.
-use mathlib.Core.Path.{◌≡◌, ◌∙◌, ap}
+-- Scans of slots: what they find. Assumes nothing.
+use mathlib.Core.Path.{◌≡◌, refl, ◌∙◌, ap}
+use mathlib.Core.Bool.{Bool}
 use mathlib.Core.List.{List}
-use Prim.Native.Nat.{ℕ, zero, suc, ◌+◌, ◌-◌, min, ◌≤◌, ◌<◌}
+use Prim.Native.Nat.{ℕ, zero, suc, ◌+◌, min, ◌≤◌, ◌<◌}
 use native.Mathlib.Omega.{arith}
 use native.Mathlib.Numerals.{add-one}
-use lib.Dec.{ltb}
-use lib.ListN.{get_or}
+use lib.ListN.{length, get_or, take}
+use lib.Seq.{length-take-le}
+use Rattle.std.proofs.Common.{get_or-take}
 use borrow.Author.Tests.{lt-ltb, le-ltb, ltb-true, ltb-false}
+use Rattle.std.specs.Prelude.{not, nat_lt, MatchOption, Some, None}
+use Rattle.std.specs.List.{position, position_or_len}
+use Rattle.std.proofs.lemmas.List.Sums.{prefix_len-le-length, position_or_len_is, fails_before_first, passes_at_first}
 use Rattle.fields.specs.Body.{tail₀}
 use Rattle.rules.specs.Priority.{slot}
-use Rattle.rules.proofs.Cases.{by_bool, by_le}
+use Rattle.rules.proofs.Cases.{by_le}
 use Rattle.rules.proofs.Arrays.{slot_element}
-use Rattle.sets.specs.Scans.{lowest_below, least_of}
+use Rattle.sets.specs.Scans.{least_of}
 
--- a scan of n slots that has come to slot i: it ends there, goes on, or ends behind them
-module _ (n i h : ℕ) (rs : List ℕ) where
-  -- it ends at a number below the limit
-  pub scan_ends : i < n → get_or rs i 0 < h → lowest_below (n - i) i h rs ≡ i
-  scan_ends l b =
-      let e : n - i ≡ suc (n - suc i) = omega arith in
-      rw (e, lt-ltb (slot rs i) h (omega (arith, slot_element rs i)), lowest_below)
+-- the first of numbers that is below a limit
+module _ (h : ℕ) (xs : List ℕ) where
+  -- one that is, behind others that are not
+  pub found_at : (i : ℕ) → i < length xs → get_or xs i 0 < h → ((k : ℕ) → k < i → h ≤ get_or xs k 0) → position (λ r. nat_lt r h) xs ≡ Some i
+  found_at i l here before =
+      rw (position_or_len_is (λ (r : ℕ). nat_lt r h) xs i 0 (omega arith) (λ k b. le-ltb _ h (before k b)) (λ _. lt-ltb _ h here), lt-ltb i (length xs) l)
 
-  -- it goes on past one that is not
-  pub scan_goes : i < n → h ≤ get_or rs i 0 → lowest_below (n - i) i h rs ≡ lowest_below (n - (i + 1)) (i + 1) h rs
-  scan_goes l b =
-      let e : n - i ≡ suc (n - suc i) = omega arith in
-      rw (e, le-ltb (slot rs i) h (omega (arith, slot_element rs i)), add-one i, lowest_below)
+  -- where none is, none is found
+  pub found_none : ((k : ℕ) → k < length xs → h ≤ get_or xs k 0) → position (λ r. nat_lt r h) xs ≡ None
+  found_none before =
+      rw (
+        position_or_len_is (λ (r : ℕ). nat_lt r h) xs (length xs) 0 (omega arith) (λ k b. le-ltb _ h (before k b)) (λ l. absurd (omega arith)),
+        le-ltb (length xs) (length xs) (omega arith),
+      )
 
-  -- it ends behind the last slot
-  pub scan_past : n ≤ i → lowest_below (n - i) i h rs ≡ i
-  scan_past l = let e : n - i ≡ 0 = omega arith in rw e
+module _ (n h : ℕ) (rs : List ℕ) (room : n ≤ length rs) where
+  -- is a number below the limit
+  abbrev pub below : ℕ → Bool
+  below r = nat_lt r h
 
--- what a scan from slot i on finds is below the limit
-pub found_below : (many i h : ℕ) (rs : List ℕ) → lowest_below many i h rs < i + many → slot rs (lowest_below many i h rs) < h
-found_below zero i h rs l = absurd (omega arith)
-found_below (suc many) i h rs l =
-    by_bool (ltb (slot rs i) h) (λ b. rw (b, lowest_below) (ltb-true (slot rs i) h b))
-    (λ b. rw (b, lowest_below)
-    (found_below many (suc i) h rs (let m : lowest_below many (suc i) h rs < i + suc many = rw (b, lowest_below) at l in omega arith)))
+  -- so many of the first n numbers, from the front on, are not
+  abbrev pub passed : ℕ
+  passed = position_or_len below (take n rs)
 
--- and none before it is
-pub none_before : (many i h : ℕ) (rs : List ℕ) (k : ℕ) → i ≤ k → k < lowest_below many i h rs → h ≤ slot rs k
-none_before zero i h rs k a l = absurd (omega arith)
-none_before (suc many) i h rs k a l =
-    by_bool (ltb (slot rs i) h) (λ b. absurd (let m : k < i = rw (b, lowest_below) at l in omega arith))
-    (λ b.
-    by_le (suc i) k (λ past. none_before many (suc i) h rs k past (rw (b, lowest_below) at l))
-    (λ here. let e : k ≡ i = omega arith in rw e (ltb-false (slot rs i) h b)))
+  -- the first that is stands behind these, if one does
+  pub first_told : MatchOption (position below (take n rs)) (passed ≡ n) (λ i. (i < n) × (i ≡ passed))
+  first_told =
+      let size = length-take-le n rs room in
+      by_le n passed (λ l. rw (size, le-ltb passed n l) (omega (arith, size, prefix_len-le-length (λ (r : ℕ). not (below r)) (take n rs))))
+      (λ l. rw (size, lt-ltb passed n l) (l, refl))
+
+  -- none that is passed is below it
+  pub none_before : (k : ℕ) → k < passed → h ≤ slot rs k
+  none_before k l =
+      let inside : k < n = omega (arith, length-take-le n rs room, prefix_len-le-length (λ (r : ℕ). not (below r)) (take n rs)) in
+      rw (slot_element rs k, ← get_or-take n rs k 0 inside) (ltb-false _ h (fails_before_first below (take n rs) k 0 l))
+
+  -- the next one is
+  pub found_below : passed < n → slot rs passed < h
+  found_below l =
+      let size = length-take-le n rs room in
+      rw (slot_element rs passed, ← get_or-take n rs passed 0 l) (ltb-true _ h (passes_at_first below (take n rs) 0 (omega (arith, size))))
 
 -- the least of one number more
 pub least_more : (m bound : ℕ) (numbers : List ℕ) → least_of (m + 1) bound numbers ≡ min (least_of m bound numbers) (get_or numbers m 0)

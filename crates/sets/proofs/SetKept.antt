@@ -9,9 +9,10 @@ use lib.Seq.{ext_get_or}
 use Rattle.rules.specs.Tasks.{Set, set_with, no_task, largest_number, task, jobs, hyperperiod, GoodSet}
 use Rattle.rules.proofs.Arrays.{slot_element}
 use Rattle.rules.proofs.GoodSets.{good_set, set_good, good_rules, good_positive}
-use Rattle.sets.specs.Kept.{Rows, tasks_in, hyperperiod_in, jobs_in, slack_in, times_in, periods_in, first_in, Keeps}
+use Rattle.sets.specs.declared.Kept.{Kept}
+use Rattle.sets.specs.Kept.{tasks_in, hyperperiod_in, jobs_in, slack_in, times_in, periods_in, first_in, Keeps}
 
-module _ {ts : Set} {kept : Rows} (keeps : Keeps ts kept) where
+module _ {ts : Set} {kept : Kept} (keeps : Keeps ts kept) where
   -- the hyperperiod that is kept is the one worked out
   pub kept_cycle : hyperperiod_in kept ≡ hyperperiod ts
   kept_cycle = (set_good ts (hyperperiod_in kept) keeps.good).1
@@ -49,7 +50,7 @@ module _ {ts : Set} {kept : Rows} (keeps : Keeps ts kept) where
     slack_short = omega (arith, slack_kept, period_short, (good_rules keeps.good i).within, keeps.good.short)
 
 -- what is kept of two sets is not the same
-pub one_set : {ts us : Set} {kept : Rows} → Keeps ts kept → Keeps us kept → ts ≡ us
+pub one_set : {ts us : Set} {kept : Kept} → Keeps ts kept → Keeps us kept → ts ≡ us
 one_set {ts} {us} {kept} a b =
     ap set_with (ext_get_or no_task ts.tasks us.tasks (sym a.n_tasks ∙ b.n_tasks) (λ i l. one_task i (omega (arith, a.n_tasks))))
   where

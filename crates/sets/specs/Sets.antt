@@ -1,22 +1,18 @@
 -- What the functions of this crate answer, in the rule book's terms, and a good set as it lies in memory. Assumes nothing.
-use Rattle.std.specs.Prelude.{◌≡◌, List, ℕ, zero, suc, ◌≤◌, leb, length, take}
-use Rattle.std.proofs.Math.Option.{Option, none, some}
+use Rattle.std.specs.Prelude.{◌≡◌, List, ℕ, ◌≤◌, leb, length, take, Option, Some, None, Result, Ok, Err, ⊤}
+use Rattle.std.proofs.Math.Option as book
 use Rattle.std.specs.Int.{◌∣◌}
 use Rattle.rules.specs.declared.Task.{Task}
 use Rattle.rules.specs.declared.TaskSet.{TaskSet}
 use Rattle.rules.specs.declared.Figures.{Figures}
 use Rattle.rules.specs.declared.Refusal.{Refusal}
-use Rattle.rules.specs.declared.SetAnswer.{SetAnswer}
-use Rattle.rules.specs.declared.SetAnswer.TheVariants as set_case
 use Rattle.rules.specs.Refusals.{gives, or_else, unless}
 use Rattle.rules.specs.Timetable.{pick}
 use Rattle.rules.specs.Tasks.{limits, all_jobs, IsLeastMultiple, IsHyperperiod, GoodSet, tasks_fault, memory_set, set_answer, judge_set}
-use Rattle.sets.specs.declared.Cycle.{Cycle}
-use Rattle.sets.specs.declared.Cycle.TheVariants as cycle_case
 
--- a number of ticks up to the limit, or one above it
-abbrev pub capped : ℕ → ℕ
-capped h = pick (leb h limits.ticks) h (suc limits.ticks)
+-- a number of ticks, where it is up to the limit
+abbrev pub capped : ℕ → Option ℕ
+capped h = pick (leb h limits.ticks) (Some h) None
 
 -- the greatest common divisor of two numbers: it divides both, and every other number that divides both divides it
 pub record IsGreatestDivisor (a b d : ℕ) : Type 0 where
@@ -24,19 +20,16 @@ pub record IsGreatestDivisor (a b d : ℕ) : Type 0 where
   pub right : d ∣ b
   pub greatest : (e : ℕ) → e ∣ a → e ∣ b → e ∣ d
 
--- the least common multiple of two numbers as it is told, up to the limit or one above it
-pub record MultipleTold (a b r : ℕ) : Type 0 where
+-- the least common multiple of two numbers as it is told, where it is up to the limit
+pub record MultipleTold (a b : ℕ) (r : Option ℕ) : Type 0 where
   pub multiple : ℕ
   pub is : IsLeastMultiple a b multiple
   pub told : r ≡ capped multiple
 
--- a refusal with number 0 stands for none
-abbrev pub fault_in : Refusal → ℕ → Option Refusal
-fault_in r zero = none
-fault_in r (suc number) = some r
-
-unfoldable pub FirstFault : Option Refusal → Refusal → Type 0
-FirstFault o r = fault_in r r.number ≡ o
+-- the answer of tests that find a fault or none
+abbrev pub fault_answer : book.Option Refusal → Result ⊤ Refusal
+fault_answer book.none = Ok tt
+fault_answer (book.some r) = Err r
 
 -- the first n tasks of a set
 abbrev pub first_tasks : TaskSet → List Task
@@ -51,22 +44,22 @@ pub record InSlots (s : TaskSet) : Type 0 where
 -- a set that 5 to 8 pass, with its hyperperiod
 pub record HasCycle (s : TaskSet) (h : ℕ) : Type 0 where
   pub in_slots : InSlots s
-  pub faultless : tasks_fault 1 0 (first_tasks s) ≡ none
+  pub faultless : tasks_fault 1 0 (first_tasks s) ≡ book.none
   pub ticks : IsHyperperiod (memory_set s) h
   pub short : h ≤ limits.ticks
 
--- the ticks that are told of a set's cycle: its hyperperiod, 0 where it has none
-pub record TicksTold (s : TaskSet) (r : ℕ) : Type 0 where
-  pub cycle : (r ≡ 0 → ⊥) → HasCycle s r
-  pub no_cycle : r ≡ 0 → (h : ℕ) → HasCycle s h → ⊥
+-- the ticks that are told of a set's cycle: its hyperperiod, where it has one
+abbrev pub TicksTold : TaskSet → Option ℕ → Type 0
+TicksTold s (Some h) = HasCycle s h
+TicksTold s None = (h : ℕ) → HasCycle s h → ⊥
 
 -- what is told of a set's cycle: its hyperperiod, or the set's refusal
-abbrev pub CycleTold : TaskSet → Cycle → Type 0
-CycleTold s (cycle_case.Ticks h) = HasCycle s h
-CycleTold s (cycle_case.Refused r) = set_case.Refused r ≡ judge_set s
+abbrev pub CycleTold : TaskSet → Result ℕ Refusal → Type 0
+CycleTold s (Ok h) = HasCycle s h
+CycleTold s (Err r) = judge_set s ≡ Err r
 
 -- the answer to a set that 5 to 8 pass, by its hyperperiod and its jobs: 9 where these are above the limit
-abbrev pub limited : ℕ → ℕ → SetAnswer
+abbrev pub limited : ℕ → ℕ → Result Figures Refusal
 limited h jobs = set_answer (or_else (unless (leb jobs limits.jobs) 9 0) (gives (record { hyperperiod = h; jobs = jobs })))
 
 -- 1 to 16 tasks, in the first slots, that are a good set with these figures

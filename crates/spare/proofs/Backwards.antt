@@ -11,14 +11,15 @@ use Rattle.rules.specs.Tasks.{Set}
 use Rattle.rules.specs.Intervals.{due_at, is_deadline, work_due, first_release, last_deadline, up_to, intervals}
 use Rattle.rules.proofs.Cases.{by_eq}
 use Rattle.rules.proofs.Several.{any_none, any_one, sum_same, greatest_same, greatest_above, greatest_within, greatest_found}
-use Rattle.sets.specs.Kept.{Rows, tasks_in, hyperperiod_in, Keeps}
+use Rattle.sets.specs.declared.Kept.{Kept}
+use Rattle.sets.specs.Kept.{tasks_in, hyperperiod_in, Keeps}
 use Rattle.sets.proofs.SetKept.{time_kept}
 use Rattle.spare.specs.declared.Walk.{Walk}
 use Rattle.spare.specs.Walking.{Standing, last_of, LastDeadlines, work_of, longest_of, Walks, to_come}
 use Rattle.spare.proofs.Slots.{slot_tells, slot_sooner}
 use Rattle.spare.proofs.Taking.{relative_kept, standing_first}
 
-module _ {ts : Set} {kept : Rows} (keeps : Keeps ts kept) where
+module _ {ts : Set} {kept : Kept} (keeps : Keeps ts kept) where
   abbrev h : ℕ
   h = hyperperiod_in kept
 

@@ -7,13 +7,14 @@ use lib.ListN.{length, length-append}
 use Rattle.rules.specs.Tasks.{Set}
 use Rattle.rules.specs.Intervals.{up_to, spare}
 use Rattle.rules.proofs.FewIntervals.{spare_length}
-use Rattle.sets.specs.Kept.{Rows, tasks_in, hyperperiod_in, Keeps}
+use Rattle.sets.specs.declared.Kept.{Kept}
+use Rattle.sets.specs.Kept.{tasks_in, hyperperiod_in, Keeps}
 use Rattle.spare.specs.declared.Walk.{Walk}
 use Rattle.spare.specs.declared.Step.{Step}
 use Rattle.spare.specs.Walking.{LastDeadlines, Walks, to_come, SteppedBack}
 use Rattle.spare.proofs.Backwards.{at_end, walk_begun, all_to_come}
 
-module _ {ts : Set} {kept : Rows} where
+module _ {ts : Set} {kept : Kept} where
   -- at the begin of the cycle nothing is still to come
   pub none_to_come : {dues : List ℕ} {w : Walk} → Walks ts kept dues w → w.behind ≤ 0 → to_come ts (hyperperiod_in kept) w ≡ []
   unfolding up_to
@@ -28,12 +29,12 @@ module _ {ts : Set} {kept : Rows} where
   one_fewer {w} {s} b = ap length b.one ∙ length-append (to_come ts (hyperperiod_in kept) s.walk) _
 
 -- so many are counted
-pub record Counting (ts : Set) (kept : Rows) (dues : List ℕ) (w : Walk) (many : ℕ) : Type 0 where
+pub record Counting (ts : Set) (kept : Kept) (dues : List ℕ) (w : Walk) (many : ℕ) : Type 0 where
   pub walks : Walks ts kept dues w
   pub rest : many + length (to_come ts (hyperperiod_in kept) w) ≡ length (spare ts (hyperperiod_in kept))
   pub few : many + w.behind ≤ hyperperiod_in kept
 
-module _ {ts : Set} {kept : Rows} where
+module _ {ts : Set} {kept : Kept} where
   pub counting_none : {dues : List ℕ} (keeps : Keeps ts kept) → LastDeadlines kept (tasks_in kept) dues → Counting ts kept dues (at_end keeps dues) 0
   counting_none keeps f = record {
     walks = walk_begun keeps f;

@@ -10,7 +10,8 @@ use lib.Signed.{mag}
 use Rattle.rules.specs.Tasks.{Set, limits}
 use Rattle.rules.specs.Intervals.{Interval, capacity, capacities, spare}
 use Rattle.rules.proofs.FewIntervals.{capacities_length, spare_length}
-use Rattle.sets.specs.Kept.{Rows, tasks_in, hyperperiod_in, Keeps}
+use Rattle.sets.specs.declared.Kept.{Kept}
+use Rattle.sets.specs.Kept.{tasks_in, hyperperiod_in, Keeps}
 use Rattle.sets.proofs.SetKept.{one_set}
 use Rattle.spare.specs.declared.Walk.{Walk}
 use Rattle.spare.specs.declared.Step.{Step}
@@ -20,7 +21,7 @@ use Rattle.spare.proofs.Counting.{none_to_come, one_fewer}
 use Rattle.spare.proofs.Capacities.{capacities_last, capacity_small}
 
 -- they fit of every set that the rows are kept of
-pub can_fill : {ts us : Set} {kept : Rows} {many : ℕ} {out : List ℤ} → CanFill ts kept many out → Keeps us kept → CanFill us kept many out
+pub can_fill : {ts us : Set} {kept : Kept} {many : ℕ} {out : List ℤ} → CanFill ts kept many out → Keeps us kept → CanFill us kept many out
 can_fill {kept = kept} can keeps = record {
   keeps = keeps;
   are = can.are ∙ ap (λ (s : Set). length (spare s (hyperperiod_in kept))) (one_set can.keeps keeps);
@@ -32,7 +33,7 @@ abbrev most : ℕ
 most = limits.tasks * limits.ticks + 2
 
 -- the walk before the interval with a capacity, with so many intervals still to come and the capacities of the others stored behind theirs
-pub record Filling (ts : Set) (kept : Rows) (many : ℕ) (old : List ℤ) (dues : List ℕ) (w : Walk) (next : ℤ) (at : ℕ) (out : List ℤ) : Type 0 where
+pub record Filling (ts : Set) (kept : Kept) (many : ℕ) (old : List ℤ) (dues : List ℕ) (w : Walk) (next : ℤ) (at : ℕ) (out : List ℤ) : Type 0 where
   pub walks : Walks ts kept dues w
   pub small : mag next + w.behind * most ≤ hyperperiod_in kept * most
   pub left : at ≡ length (to_come ts (hyperperiod_in kept) w)
@@ -40,7 +41,7 @@ pub record Filling (ts : Set) (kept : Rows) (many : ℕ) (old : List ℤ) (dues 
   pub to_do : take at (spare ts (hyperperiod_in kept)) ≡ capacities (to_come ts (hyperperiod_in kept) w) next
   pub filled : out ≡ take at old ++ (drop at (spare ts (hyperperiod_in kept)) ++ drop many old)
 
-module _ {ts : Set} {kept : Rows} {many : ℕ} {old : List ℤ} (can : CanFill ts kept many old) where
+module _ {ts : Set} {kept : Kept} {many : ℕ} {old : List ℤ} (can : CanFill ts kept many old) where
   abbrev h : ℕ
   h = hyperperiod_in kept
 

@@ -14,7 +14,8 @@ use Rattle.rules.proofs.Cases.{by_bool, by_nat}
 use Rattle.rules.proofs.Arrays.{slot_element}
 use Rattle.rules.proofs.GoodSets.{good_rules}
 use Rattle.rules.proofs.Several.{greatest_above, greatest_within, greatest_found}
-use Rattle.sets.specs.Kept.{Rows, tasks_in, hyperperiod_in}
+use Rattle.sets.specs.declared.Kept.{Kept}
+use Rattle.sets.specs.Kept.{tasks_in, hyperperiod_in}
 use Rattle.sets.proofs.SetKept.{period_kept}
 use Rattle.spare.specs.declared.Due.{Due}
 use Rattle.spare.specs.declared.Walk.{Walk}
@@ -23,7 +24,7 @@ use Rattle.spare.proofs.Slots.{slot_job, slot_next}
 use Rattle.spare.proofs.Taking.{relative_kept, work_small}
 use Rattle.spare.proofs.Backwards.{slots_below, sooner, work_slots, release_slots, deadline_here, skip}
 
-module _ {ts : Set} {kept : Rows} {dues : List ℕ} {w : Walk} (W : Walks ts kept dues w) where
+module _ {ts : Set} {kept : Kept} {dues : List ℕ} {w : Walk} (W : Walks ts kept dues w) where
   abbrev h : ℕ
   h = hyperperiod_in kept
 

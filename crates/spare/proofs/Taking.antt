@@ -14,14 +14,15 @@ use Rattle.rules.specs.Timetable.{pick}
 use Rattle.rules.proofs.Arrays.{slot_element}
 use Rattle.rules.proofs.GoodSets.{good_rules, good_positive}
 use Rattle.rules.proofs.Several.{sum_within}
-use Rattle.sets.specs.Kept.{Rows, tasks_in, hyperperiod_in, times_in, periods_in, first_in, Keeps}
+use Rattle.sets.specs.declared.Kept.{Kept}
+use Rattle.sets.specs.Kept.{tasks_in, hyperperiod_in, times_in, periods_in, first_in, Keeps}
 use Rattle.sets.proofs.Arrays.{filled_none, filled_more}
 use Rattle.sets.proofs.SetKept.{slack_kept, time_kept, period_kept, first_kept, period_short}
 use Rattle.spare.specs.declared.Due.{Due}
 use Rattle.spare.specs.Walking.{Standing, relative_in, last_in, LastDeadlines, work_of, Taken}
 use Rattle.spare.proofs.Slots.{first_slot}
 
-module _ {ts : Set} {kept : Rows} (keeps : Keeps ts kept) where
+module _ {ts : Set} {kept : Kept} (keeps : Keeps ts kept) where
   module _ (i : ℕ) (l : i < tasks_in kept) where
     -- D − C and C of a task make its relative deadline
     pub relative_kept : relative_in kept i ≡ (task ts i).deadline
@@ -62,11 +63,11 @@ module _ {ts : Set} {kept : Rows} (keeps : Keeps ts kept) where
       short false i l = omega arith
 
 -- no task's jobs are taken at first
-pub taken_none : {kept : Rows} {dues : List ℕ} {e : ℕ} → Taken kept dues e 0 (record { work = 0; longest = 0 }) dues
+pub taken_none : {kept : Kept} {dues : List ℕ} {e : ℕ} → Taken kept dues e 0 (record { work = 0; longest = 0 }) dues
 taken_none = record { work_is = refl; longest_is = refl; slots = filled_none _ _ _ }
 
 -- then those of one task more
-module _ {kept : Rows} {dues : List ℕ} {e i : ℕ} {due : Due} {after : List ℕ} (T : Taken kept dues e i due after) (inside : i < length dues) where
+module _ {kept : Kept} {dues : List ℕ} {e i : ℕ} {due : Due} {after : List ℕ} (T : Taken kept dues e i due after) (inside : i < length dues) where
   -- its slot is as it was
   untouched : get_or after i 0 ≡ get_or dues i 0
   untouched = sym (slot_element after i) ∙ T.slots.above i (omega arith) ∙ slot_element dues i

@@ -9,29 +9,27 @@ ghost use Rattle.rules.specs.Intervals as book;
 ghost use Rattle.sets.specs.Kept.{tasks_in, hyperperiod_in, Keeps};
 ghost use Rattle.spare.specs.Walking.{relative_in, LastDeadlines, last_of, Taken, Walks, SteppedBack, CanFill};
 
-use sets::{FIGURES, FIRST, HYPERPERIOD, PERIODS, SLACK, TASKS, TIMES};
+use sets::Kept;
 
 // The relative deadline of task i.
-fn relative_deadline(kept: &[[u32; 16]; 6], i: usize) -> u32
+fn relative_deadline(kept: &Kept, i: usize) -> u32
     requires a_set { (ts : Set) × Keeps ts kept.now }
     requires a_task { i < tasks_in kept.now }
     ensures { result ≡ relative_in kept.now i }
 {
-    kept[SLACK][i] + kept[TIMES][i]
+    kept.slack[i] + kept.times[i]
 }
 
 // The deadline of each task's last job of the cycle, in its slot.
-fn last_deadlines(kept: &[[u32; 16]; 6]) -> [u32; 16]
+fn last_deadlines(kept: &Kept) -> [u32; 16]
     requires { (ts : Set) × Keeps ts kept.now }
     ensures { LastDeadlines kept.now (tasks_in kept.now) result }
 {
-    let n = kept[FIGURES][TASKS] as usize;
-    let h = kept[FIGURES][HYPERPERIOD];
+    let n = kept.tasks as usize;
+    let h = kept.hyperperiod;
     let mut dues = [0u32; 16];
-    let mut i: usize = 0;
-    while i < n {
-        dues[i] = h - kept[PERIODS][i] + kept[FIRST][i] + relative_deadline(kept, i);
-        i += 1;
+    for i in 0..n {
+        dues[i] = h - kept.periods[i] + kept.first[i] + relative_deadline(kept, i);
     }
     dues
 }
@@ -42,10 +40,8 @@ fn latest(n: usize, dues: &[u32; 16]) -> u32
     ensures { result ≡ last_of n dues.now }
 {
     let mut last: u32 = 0;
-    let mut i: usize = 0;
-    while i < n {
-        last = sets::later(last, dues[i]);
-        i += 1;
+    for due in &dues[..n] {
+        last = last.max(*due);
     }
     last
 }
@@ -54,10 +50,7 @@ fn latest(n: usize, dues: &[u32; 16]) -> u32
 fn a_period_before(due: u32, period: u32) -> u32
     ensures { result ≡ due - period }
 {
-    if due < period {
-        return 0;
-    }
-    due - period
+    due.saturating_sub(period)
 }
 
 // Of the jobs due at an instant: their declared times together, and the longest of their relative deadlines.
@@ -68,22 +61,20 @@ struct Due {
 }
 
 // Takes the jobs due at an instant: the slots that hold it go back by a period.
-fn take_due(kept: &[[u32; 16]; 6], dues: &mut [u32; 16], e: u32) -> Due
+fn take_due(kept: &Kept, dues: &mut [u32; 16], e: u32) -> Due
     requires a_set { (ts : Set) × Keeps ts kept.now }
     requires slots { length dues.old ≡ 16 }
     ensures { Taken kept.now dues.old e (tasks_in kept.now) result dues.new }
 {
-    let n = kept[FIGURES][TASKS] as usize;
+    let n = kept.tasks as usize;
     let mut work: u32 = 0;
     let mut longest: u32 = 0;
-    let mut i: usize = 0;
-    while i < n {
+    for i in 0..n {
         if dues[i] == e {
-            work += kept[TIMES][i];
-            longest = sets::later(longest, relative_deadline(kept, i));
-            dues[i] = a_period_before(e, kept[PERIODS][i]);
+            work += kept.times[i];
+            longest = longest.max(relative_deadline(kept, i));
+            dues[i] = a_period_before(e, kept.periods[i]);
         }
-        i += 1;
     }
     Due { work, longest }
 }
@@ -103,18 +94,18 @@ struct Step {
 }
 
 // The walk at the end of the cycle.
-fn begin(kept: &[[u32; 16]; 6], dues: &[u32; 16]) -> Walk
+fn begin(kept: &Kept, dues: &[u32; 16]) -> Walk
     requires { tasks_in kept.now ≤ 16 }
     ensures { result ≡ record { end = last_of (tasks_in kept.now) dues.now; behind = hyperperiod_in kept.now } }
 {
-    let n = kept[FIGURES][TASKS] as usize;
-    let h = kept[FIGURES][HYPERPERIOD];
+    let n = kept.tasks as usize;
+    let h = kept.hyperperiod;
     let end = latest(n, dues);
     Walk { end, behind: h }
 }
 
 // A step back: over the stretch without jobs, where there is one, else over the interval that ends at the last deadline.
-fn previous(kept: &[[u32; 16]; 6], dues: &mut [u32; 16], w: Walk) -> Step
+fn previous(kept: &Kept, dues: &mut [u32; 16], w: Walk) -> Step
     requires walks { (ts : Set) × Walks ts kept.now dues.old w }
     requires more { 0 < w.behind }
     ensures { (ts : Set) → Walks ts kept.now dues.old w →
@@ -131,10 +122,10 @@ fn previous(kept: &[[u32; 16]; 6], dues: &mut [u32; 16], w: Walk) -> Step
         };
     }
     let due = take_due(kept, dues, w.end);
-    let end = latest(kept[FIGURES][TASKS] as usize, dues);
+    let end = latest(kept.tasks as usize, dues);
     let before = Walk {
         end,
-        behind: sets::later(end, w.end - due.longest),
+        behind: end.max(w.end - due.longest),
     };
     Step {
         work: due.work,
@@ -143,7 +134,7 @@ fn previous(kept: &[[u32; 16]; 6], dues: &mut [u32; 16], w: Walk) -> Step
 }
 
 // How many intervals the cycle has.
-pub fn count(kept: &[[u32; 16]; 6]) -> usize
+pub fn count(kept: &Kept) -> usize
     requires { (ts : Set) × Keeps ts kept.now }
     ensures { (ts : Set) → Keeps ts kept.now → result ≡ length (book.spare ts (hyperperiod_in kept.now)) }
 {
@@ -151,8 +142,7 @@ pub fn count(kept: &[[u32; 16]; 6]) -> usize
     let mut w = begin(kept, &dues);
     let mut many: usize = 0;
     while 0 < w.behind {
-        let p = previous(kept, &mut dues, w);
-        w = p.walk;
+        w = previous(kept, &mut dues, w).walk;
         many += 1;
     }
     many
@@ -162,10 +152,7 @@ pub fn count(kept: &[[u32; 16]; 6]) -> usize
 fn borrowed(next: i64) -> i64
     ensures { result ≡ book.borrowed next }
 {
-    if next < 0 {
-        return next;
-    }
-    0
+    next.min(0)
 }
 
 // An interval's capacity: its length minus declared times, plus what the next one borrows.
@@ -174,11 +161,11 @@ fn capacity(begin: u32, end: u32, work: u32, next: i64) -> i64
     requires small { mag next ≤ 2 ^ 62 }
     ensures { result ≡ book.capacity (record { begin = begin; end = end; work = work }) next }
 {
-    (end - begin) as i64 - work as i64 + borrowed(next)
+    i64::from(end - begin) - i64::from(work) + borrowed(next)
 }
 
 // The capacities at the front of an output, in order of time: worked out and stored from the last interval to the first.
-pub fn fill(kept: &[[u32; 16]; 6], many: usize, out: &mut [i64])
+pub fn fill(kept: &Kept, many: usize, out: &mut [i64])
     requires { (ts : Set) × CanFill ts kept.now many out.old }
     ensures { (ts : Set) → Keeps ts kept.now →
         out.new ≡ book.spare ts (hyperperiod_in kept.now) ++ drop many out.old }

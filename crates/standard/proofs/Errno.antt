@@ -1,13 +1,12 @@
 -- std takes errno for an interruption exactly where it is EINTR. Assumes nothing.
-use Rattle.std.specs.Prelude.{◌≡◌, ◌≢◌, List, [], ◌∷◌, Bool, true, false, ℕ, eqb, ℤ, pos, negsuc, int_lt, refl, Result, Ok, Err}
+use Rattle.std.specs.Prelude.{◌≡◌, ◌≢◌, List, [], ◌∷◌, Bool, true, false, ℕ, eqb, ℤ, pos, negsuc, int_lt, refl, Option, Result, Ok, Err}
 use Rattle.std.specs.IoError.{os_error_kind, os_error_kinds, kind_in}
 use Rattle.std.specs.declared.io.Error.{Error}
 use Rattle.std.specs.declared.io.ErrorKind.{ErrorKind}
 use Rattle.std.proofs.Common.{arith, rules, ap, ◌∙◌}
 use Rattle.std.proofs.lemmas.Bool.{eqb-true, eqb-false}
 use Rattle.std.proofs.lemmas.Grind.{common_steps}
-use Rattle.standard.specs.declared.Call.{Call}
-use Rattle.standard.specs.Calls.{interruption, not_made, is_interrupted, made_of, AsErrno}
+use Rattle.standard.specs.Calls.{interruption, is_interrupted, not_made, made_of, AsErrno}
 
 -- a table of errors in which only EINTR is an interruption
 abbrev Only : List (ℕ × ErrorKind) → Type 0
@@ -31,12 +30,12 @@ not_below : (n : ℕ) → int_lt (pos n) (pos 0) ≡ false
 not_below n = grind (arith, common_steps)
 
 -- errno, by what std takes it for
-pub eintr : (error : ℤ) → is_interrupted (os_error_kind error) ≡ interruption error
+eintr : (error : ℤ) → is_interrupted (os_error_kind error) ≡ interruption error
 unfolding os_error_kind
 eintr (pos n) = rw (not_below n) (by_number n (eqb n 4) refl)
 eintr (negsuc k) = refl
 
 -- what a call came to by std's kinds, it came to by errno
-pub as_errno : (got : Result ℕ Error) (r : Call) → r ≡ made_of got → AsErrno got r
-as_errno (Ok n) r is = λ error. is
-as_errno (Err e) r is = λ error same. is ∙ ap not_made (ap is_interrupted same ∙ eintr error)
+pub as_errno : (got : Result ℕ Error) (r : Option (Result ℕ Error)) → r ≡ made_of got → AsErrno got r
+as_errno (Ok n) r is = is
+as_errno (Err e) r is = λ error same. is ∙ ap (not_made e) (ap is_interrupted same ∙ eintr error)

@@ -1,22 +1,20 @@
 // Standard input, output and error: a read behind the bytes that are held, the writing of a whole text, and a line for a call that failed. A call that was
-// interrupted is made again; a proved loop has to end, so that is counted down, from a number that no run uses up.
+// interrupted is made again; a proved loop has to end, so that is counted, up to a number that no run uses up.
 #![tactic(auto)]
 
-ghost use Rattle.std.specs.Prelude.{◌≡◌, ◌≤◌, length, take};
-ghost use Rattle.std.specs.Io.KnownBytes.{Appends};
+ghost use Rattle.std.specs.Prelude.{◌≡◌, ◌≤◌, ◌<◌, length, IfErr};
 ghost use Rattle.standard.specs.Calls.{made_of, AsErrno, Moves, ReadFrom, ReadBehind};
-ghost use Rattle.standard.specs.Known.{Gives, Comes, Takes};
+ghost use Rattle.standard.specs.Known.{Gives, Comes, Takes, Written};
 
 use std::io;
 use std::io::{ErrorKind, Read, Write};
 
-// A program's streams, and the error of the last call that failed: before the first the system's number 0, as errno has it.
+// A program's streams.
 #[derive(Drop)]
 pub struct Streams<R, W, E> {
     input: R,
     output: W,
     errors: E,
-    error: io::Error,
 }
 
 impl<R, W, E> Streams<R, W, E> {
@@ -29,130 +27,100 @@ impl<R, W, E> Streams<R, W, E> {
             input,
             output,
             errors,
-            error: io::Error::from_raw_os_error(0),
         }
     }
 }
 
-// What a call of read or write came to.
-#[derive(Clone, Copy)]
-enum Call {
-    Moved(usize),
-    Interrupted,
-    Failed,
-}
-
-// By its answer, and by the error where it has none.
-fn call_of(got: io::Result<usize>) -> Call
+// What a call came to, or nothing where it was interrupted and is to be made again.
+fn unless_interrupted(got: io::Result<usize>) -> Option<io::Result<usize>>
     ensures made { result ≡ made_of got }
     ensures errno { AsErrno got result }
 {
     match got {
-        Ok(n) => Call::Moved(n),
-        Err(error) => {
-            if error.kind() == ErrorKind::Interrupted {
-                return Call::Interrupted;
+        Err(error) if error.kind() == ErrorKind::Interrupted => None,
+        got => Some(got),
+    }
+}
+
+// The system's number of an interruption.
+const EINTR: i32 = 4;
+
+impl<R: Read, W, E> Streams<R, W, E> {
+    // A read of standard input, to a place of the buffer and behind it.
+    fn read_from(&mut self, input: &mut [u8], at: usize) -> io::Result<usize>
+        requires { at ≤ length input.old }
+        ensures read { ReadFrom at input.old result input.new }
+        ensures known { Gives at result input.new (R.remaining self.old.input) (R.remaining self.new.input) }
+        ensures output { self.new.output ≡ self.old.output }
+        ensures errors { self.new.errors ≡ self.old.errors }
+    {
+        for _ in 0..u64::MAX {
+            if let Some(got) = unless_interrupted(self.input.read(&mut input[at..])) {
+                return got;
             }
-            Call::Failed
         }
+        Err(io::Error::from_raw_os_error(EINTR))
+    }
+
+    // Reads standard input behind so many bytes that are held, and answers how many are held then: no more where it has ended, or where the buffer is full.
+    pub fn read_behind(&mut self, input: &mut [u8], held: usize) -> io::Result<usize>
+        requires { held ≤ length input.old }
+        ensures read { ReadBehind held input.old result input.new }
+        ensures known { Comes held result input.new (R.remaining self.old.input) (R.remaining self.new.input) }
+        ensures output { self.new.output ≡ self.old.output }
+        ensures errors { self.new.errors ≡ self.old.errors }
+    {
+        let n = self.read_from(input, held)?;
+        Ok(held + n)
     }
 }
 
-// One read of standard input, to a place of the buffer and behind it.
-fn read_from<R: Read, W, E>(streams: &mut Streams<R, W, E>, input: &mut [u8], at: usize) -> Call
-    requires { at ≤ length input.old }
-    ensures read { ReadFrom at input.old result input.new }
-    ensures known { Gives at result input.new (R.remaining streams.old.input) (R.remaining streams.new.input) }
-    ensures output { streams.new.output ≡ streams.old.output }
-    ensures errors { streams.new.errors ≡ streams.old.errors }
-{
-    let got = streams.input.read(&mut input[at..]);
-    if let Err(error) = &got {
-        streams.error = *error;
-    }
-    call_of(got)
-}
-
-// What reading came to: so many bytes at the front of the buffer, or a read that failed.
+// A text of which only so many bytes were taken: by the error of the write that failed, or by the system's number 0 where one took nothing.
 #[derive(Clone, Copy)]
-pub enum Input {
-    Held(usize),
-    Failed,
+pub struct Unfinished {
+    pub taken: usize,
+    pub error: io::Error,
 }
 
-// Reads standard input behind so many bytes that are held. No more are held then where it has ended, or where the buffer is full.
-pub fn read_behind<R: Read, W, E>(
-    streams: &mut Streams<R, W, E>,
-    input: &mut [u8],
-    held: usize,
-) -> Input
-    requires { held ≤ length input.old }
-    ensures read { ReadBehind held input.old result input.new }
-    ensures known { Comes held result input.new (R.remaining streams.old.input) (R.remaining streams.new.input) }
-    ensures output { streams.new.output ≡ streams.old.output }
-    ensures errors { streams.new.errors ≡ streams.old.errors }
-{
-    let mut turns = u64::MAX;
-    while turns > 0 {
-        match read_from(streams, input, held) {
-            Call::Moved(n) => {
-                return Input::Held(held + n);
-            }
-            Call::Interrupted => {
-                turns -= 1;
-            }
-            Call::Failed => {
-                return Input::Failed;
+impl<R, W: Write, E> Streams<R, W, E> {
+    // A write to standard output, of a text from a place on.
+    fn write_from(&mut self, text: &[u8], at: usize) -> io::Result<usize>
+        requires { at ≤ length text.now }
+        ensures written { Moves at result text.now }
+        ensures known { Takes at result text.now (W.contents self.old.output) (W.contents self.new.output) }
+        ensures input { self.new.input ≡ self.old.input }
+        ensures errors { self.new.errors ≡ self.old.errors }
+    {
+        for _ in 0..u64::MAX {
+            if let Some(got) = unless_interrupted(self.output.write(&text[at..])) {
+                return got;
             }
         }
+        Err(io::Error::from_raw_os_error(EINTR))
     }
-    Input::Failed
-}
 
-// One write to standard output, of a text from a place on.
-fn write_from<R, W: Write, E>(streams: &mut Streams<R, W, E>, text: &[u8], at: usize) -> Call
-    requires { at ≤ length text.now }
-    ensures written { Moves at result text.now }
-    ensures known { Takes at result text.now (W.contents streams.old.output) (W.contents streams.new.output) }
-    ensures input { streams.new.input ≡ streams.old.input }
-    ensures errors { streams.new.errors ≡ streams.old.errors }
-{
-    let got = streams.output.write(&text[at..]);
-    if let Err(error) = &got {
-        streams.error = *error;
-    }
-    call_of(got)
-}
-
-// Writes a text to standard output, and answers how many of its bytes were taken: fewer than all where a write failed or took nothing.
-pub fn write_text<R, W: Write, E>(streams: &mut Streams<R, W, E>, text: &[u8]) -> usize
-    ensures inside { result ≤ length text.now }
-    ensures known { Appends (W.contents streams.old.output) (W.contents streams.new.output) (take result text.now) }
-    ensures input { streams.new.input ≡ streams.old.input }
-    ensures errors { streams.new.errors ≡ streams.old.errors }
-{
-    let mut at: usize = 0;
-    let mut turns = u64::MAX;
-    while at < text.len() {
-        match write_from(streams, text, at) {
-            Call::Moved(n) => {
-                if n == 0 {
-                    return at;
+    // Writes a text to standard output.
+    pub fn write_text(&mut self, text: &[u8]) -> Result<(), Unfinished>
+        ensures inside { IfErr result (λ r. r.taken < length text.now) }
+        ensures known { Written text.now result (W.contents self.old.output) (W.contents self.new.output) }
+        ensures input { self.new.input ≡ self.old.input }
+        ensures errors { self.new.errors ≡ self.old.errors }
+    {
+        let mut at: usize = 0;
+        while at < text.len() {
+            match self.write_from(text, at) {
+                Ok(0) => {
+                    return Err(Unfinished {
+                        taken: at,
+                        error: io::Error::from_raw_os_error(0),
+                    });
                 }
-                at += n;
-            }
-            Call::Interrupted => {
-                if turns == 0 {
-                    return at;
-                }
-                turns -= 1;
-            }
-            Call::Failed => {
-                return at;
+                Ok(n) => at += n,
+                Err(error) => return Err(Unfinished { taken: at, error }),
             }
         }
+        Ok(())
     }
-    at
 }
 
 // The most bytes of an error's text, with its number behind it.
@@ -162,14 +130,10 @@ const LONGEST_ERROR: usize = 320;
 fn before_number(text: &[u8]) -> usize
     ensures { result ≤ length text.now }
 {
-    let mut at = text.len();
-    while at > 0 {
-        at -= 1;
-        if text[at] == b'(' {
-            return at.saturating_sub(1);
-        }
+    match text.iter().rposition(|byte| *byte == b'(') {
+        Some(at) => at.saturating_sub(1),
+        None => text.len(),
     }
-    text.len()
 }
 
 // The text of an error at the front of a buffer, without such a number.
@@ -185,17 +149,19 @@ fn put_error(error: &io::Error, text: &mut [u8; LONGEST_ERROR]) -> usize
     before_number(&text[..many])
 }
 
-// Writes a line to standard error: what failed, as the caller names it, a colon and the text of the error of the last call that failed.
-pub fn fail<R, W, E: Write>(streams: &mut Streams<R, W, E>, what: &[u8])
-    ensures input { streams.new.input ≡ streams.old.input }
-    ensures output { streams.new.output ≡ streams.old.output }
-{
-    let mut text = [0u8; LONGEST_ERROR];
-    let n = put_error(&streams.error, &mut text);
-    let _ = streams.errors.write_all(what);
-    let _ = streams.errors.write_all(b": ");
-    let _ = streams.errors.write_all(&text[..n]);
-    let _ = streams.errors.write_all(b"\n");
+impl<R, W, E: Write> Streams<R, W, E> {
+    // Writes a line to standard error: what failed, as the caller names it, a colon and the text of the error.
+    pub fn fail(&mut self, what: &[u8], error: &io::Error)
+        ensures input { self.new.input ≡ self.old.input }
+        ensures output { self.new.output ≡ self.old.output }
+    {
+        let mut text = [0u8; LONGEST_ERROR];
+        let n = put_error(error, &mut text);
+        let _ = self.errors.write_all(what);
+        let _ = self.errors.write_all(b": ");
+        let _ = self.errors.write_all(&text[..n]);
+        let _ = self.errors.write_all(b"\n");
+    }
 }
 
 #[cfg(test)]
@@ -246,8 +212,6 @@ mod tests {
         }
     }
 
-    const EINTR: i32 = 4;
-
     const EISDIR: i32 = 21;
 
     const ENOSPC: i32 = 28;
@@ -261,14 +225,14 @@ mod tests {
         };
         let mut streams = Streams::new(input, rt.stdout(), Vec::new(rt.alloc()));
         let mut bytes = [b'a'; 3];
-        match read_behind(&mut streams, &mut bytes, 1) {
-            Input::Held(n) => assert_eq!(rt; n, 2),
-            Input::Failed => assert!(rt; false),
+        match streams.read_behind(&mut bytes, 1) {
+            Ok(n) => assert_eq!(rt; n, 2),
+            Err(_) => assert!(rt; false),
         }
         assert!(rt; bytes == [b'a', b'x', b'a']);
-        match read_behind(&mut streams, &mut bytes, 2) {
-            Input::Held(_) => assert!(rt; false),
-            Input::Failed => fail(&mut streams, b"test: input"),
+        match streams.read_behind(&mut bytes, 2) {
+            Ok(_) => assert!(rt; false),
+            Err(error) => streams.fail(b"test: input", &error),
         }
         assert!(rt; streams.errors.as_slice() == b"test: input: Is a directory\n".as_slice());
     }
@@ -281,9 +245,14 @@ mod tests {
             calls: 0,
         };
         let mut streams = Streams::new(rt.stdin(), output, Vec::new(rt.alloc()));
-        assert_eq!(rt; write_text(&mut streams, b"abc"), 2);
-        fail(&mut streams, b"test: output");
-        assert_eq!(rt; write_text(&mut streams, b"abc"), 3);
+        match streams.write_text(b"abc") {
+            Ok(()) => assert!(rt; false),
+            Err(unfinished) => {
+                assert_eq!(rt; unfinished.taken, 2);
+                streams.fail(b"test: output", &unfinished.error);
+            }
+        }
+        assert!(rt; streams.write_text(b"abc").is_ok());
         assert!(rt;
             streams.errors.as_slice() == b"test: output: No space left on device\n".as_slice()
         );

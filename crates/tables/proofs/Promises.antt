@@ -6,51 +6,51 @@ use mathlib.Core.List.{List, ◌++◌}
 use Prim.Native.Nat.{ℕ, ◌-◌}
 use native.Mathlib.Omega.{arith}
 use lib.ListN.{length, replicate}
+use Rattle.std.specs.Prelude.{Result, Ok, Err, ⊤}
 use Rattle.fields.specs.Number.{Bytes}
 use Rattle.rules.specs.declared.Entry.{Entry}
 use Rattle.rules.specs.declared.Refusal.{Refusal}
-use Rattle.rules.specs.declared.CheckAnswer.{CheckAnswer}
-use Rattle.rules.specs.declared.CheckAnswer.TheVariants.{Accepted, Refused}
-use Rattle.rules.specs.Refusals.{gives, refuses}
+use Rattle.rules.specs.Refusals.{gives}
 use Rattle.rules.specs.Tasks.{Set, limits, memory_set}
-use Rattle.rules.specs.Located.{located, bare}
+use Rattle.rules.specs.declared.Located.{Located}
+use Rattle.rules.specs.Located.{located, RefusedAt}
 use Rattle.rules.specs.Offsets.{first_offsets}
 use Rattle.rules.specs.Operations.{Timed, Tabled, rebuilt, check_tables}
 use Rattle.rules.specs.Dispatcher.{zero_task}
 use Rattle.rules.specs.Promised.{TableImage, RefusesTableImage}
-use Rattle.rules.proofs.Cases.{by_nat, clash, gives_in}
+use Rattle.rules.proofs.Cases.{clash, gives_in}
 use Rattle.rules.proofs.Locations.{one_refused}
 use Rattle.rules.proofs.Demand2.{rebuilds}
 use Rattle.rules.proofs.Promises as book
-use Rattle.sets.specs.Kept.{Rows}
+use Rattle.sets.specs.declared.Kept.{Kept}
 use Rattle.tables.specs.declared.Tables.{Tables as Judgement}
-use Rattle.tables.specs.Judged.{refused_with, Good, JudgedAs}
+use Rattle.tables.specs.Judged.{Good, JudgedAs}
 
 -- the contract of `check` leaves one answer
-pub one_answer : (bytes : List ℕ) (r q : CheckAnswer) → r ≡ check_tables bytes → q ≡ check_tables bytes → r ≡ q
+pub one_answer : (bytes : List ℕ) (r q : Result ⊤ Located) → r ≡ check_tables bytes → q ≡ check_tables bytes → r ≡ q
 one_answer bytes r q e f = e ∙ sym f
 
 -- the answer is Accepted exactly where the bytes are the image of a good set and of the tables that a valid timetable of it has
-pub accepted_exactly : (bytes : List ℕ) → Bytes bytes → (r : CheckAnswer) → r ≡ check_tables bytes →
-    (r ≡ Accepted) ↔ ((ts : Set) × (τ : List Entry) × TableImage bytes ts τ)
+pub accepted_exactly : (bytes : List ℕ) → Bytes bytes → (r : Result ⊤ Located) → r ≡ check_tables bytes →
+    (r ≡ Ok tt) ↔ ((ts : Set) × (τ : List Entry) × TableImage bytes ts τ)
 accepted_exactly bytes b r e =
     let exactly = book.accepted_tables bytes b in
     (λ a. exactly.0 (sym e ∙ a), λ w. e ∙ exactly.1 w)
 
 -- it is a refusal exactly where that is the first that the document's order comes to
-pub refused_exactly : (bytes : List ℕ) (r : CheckAnswer) → r ≡ check_tables bytes → (q : Refusal) →
-    (r ≡ Refused (located bytes q)) ↔ RefusesTableImage bytes q
+pub refused_exactly : (bytes : List ℕ) (r : Result ⊤ Located) → r ≡ check_tables bytes → (q : Refusal) →
+    (r ≡ Err (located bytes q)) ↔ RefusesTableImage bytes q
 refused_exactly bytes r e q =
     let exactly = book.table_order bytes q in
     (λ a. exactly.0 (sym e ∙ a), λ w. e ∙ exactly.1 w)
 
 -- what an accepted image comes to
-good_rebuilt : {bytes : List ℕ} {t : Judgement} {kept : Rows} (g : Good bytes t kept) →
+good_rebuilt : {bytes : List ℕ} {t : Judgement} {kept : Kept} (g : Good bytes t kept) →
     rebuilt bytes ≡ gives (record { set = memory_set t.set; entries = g.entries })
 good_rebuilt g = rw (g.read, g.judged)
 
 -- what is accepted is told by the image
-module _ {bytes : List ℕ} {t u : Judgement} {kept others : Rows} (g : Good bytes t kept) (k : Good bytes u others) where
+module _ {bytes : List ℕ} {t u : Judgement} {kept others : Kept} (g : Good bytes t kept) (k : Good bytes u others) where
   -- what the image holds is the same
   same_held : ◌≡◌ {A = Tabled} (record { set = memory_set t.set; tables = g.tables }) (record { set = memory_set u.set; tables = k.tables })
   same_held = gives_in _ _ (sym g.read ∙ k.read)
@@ -72,30 +72,23 @@ module _ {bytes : List ℕ} {t u : Judgement} {kept others : Rows} (g : Good byt
   -- and its first offsets
   good_same : t ≡ u
   good_same =
-      let r : t.refusal ≡ u.refusal = g.not_refused ∙ sym k.not_refused in
       let offsets : t.first ≡ u.first =
       g.offsets ∙ ap (λ (x : Tabled). first_offsets x.set x.tables) same_held ∙ sym k.offsets in
-      λ i. record { refusal = r i; set = same_set i; first = offsets i }
+      λ i. record { set = same_set i; first = offsets i }
 
 -- what is accepted is not refused
-good_not_refused : {bytes : List ℕ} {t : Judgement} {kept : Rows} → Good bytes t kept → (r : Refusal) → rebuilt bytes ≡ refuses r → ⊥
-good_not_refused {bytes} {t} g r e = let both = sym (good_rebuilt g) ∙ e in clash (cc)
+good_not_refused : {bytes : List ℕ} {t : Judgement} {kept : Kept} {r : Located} {A : Type 0} → Good bytes t kept → RefusedAt bytes (rebuilt bytes) r → A
+good_not_refused g r = let both = sym (good_rebuilt g) ∙ r.judged in clash (cc)
 
 -- the contract of `judge` leaves one result
-pub one_judgement : (bytes : List ℕ) (t u : Judgement) (kept others : Rows) → JudgedAs bytes t kept → JudgedAs bytes u others → t ≡ u
-one_judgement bytes t u kept others a b =
-    by_nat t.refusal.number
-    (λ y. by_nat u.refusal.number (λ z. good_same (a.good y) (b.good z))
-    (λ m z. absurd (good_not_refused (a.good y) (bare u.refusal) (b.refused (λ q. omega (arith, q, z))).0.judged)))
-    (λ l y. by_nat u.refusal.number
-    (λ z. absurd (good_not_refused (b.good z) (bare t.refusal) (a.refused (λ q. omega (arith, q, y))).0.judged))
-    (λ m z.
-    let v = a.refused (λ q. omega (arith, q, y)) in
-    let w = b.refused (λ q. omega (arith, q, z)) in
-    v.1 ∙ ap refused_with (one_refused v.0 w.0) ∙ sym w.1))
+pub one_judgement : (bytes : List ℕ) (a b : Result Judgement Located) (kept others : Kept) → JudgedAs bytes a kept → JudgedAs bytes b others → a ≡ b
+one_judgement bytes (Ok t) (Ok u) kept others g k = ap Ok (good_same g k)
+one_judgement bytes (Ok t) (Err q) kept others g k = good_not_refused g k
+one_judgement bytes (Err r) (Ok u) kept others g k = good_not_refused k g
+one_judgement bytes (Err r) (Err q) kept others g k = ap Err (one_refused g k)
 
 -- the timetable behind an accepted image is the only one that has its tables
-pub only_timetable : {bytes : List ℕ} {t : Judgement} {kept : Rows} (g : Good bytes t kept) {us : Set} {σ : List Entry} → TableImage bytes us σ →
+pub only_timetable : {bytes : List ℕ} {t : Judgement} {kept : Kept} (g : Good bytes t kept) {us : Set} {σ : List Entry} → TableImage bytes us σ →
     (us ≡ memory_set t.set) × (σ ≡ g.entries)
 only_timetable {t = t} g {us} {σ} image =
     let same : ◌≡◌ {A = Timed} (record { set = us; entries = σ }) (record { set = memory_set t.set; entries = g.entries }) =

@@ -1,7 +1,8 @@
 -- Replay and comparison in one pass: what the image comes to where replay of a cycle ends. Assumes nothing.
-use mathlib.Core.Path.{◌≡◌, refl, sym, ◌∙◌, ap}
+use mathlib.Core.Path.{◌≡◌, refl, ap}
 use mathlib.Core.List.{List}
-use Prim.Native.Nat.{ℕ, suc, ◌+◌, ◌*◌, ◌-◌, ◌/◌, ◌<◌}
+use Rattle.rules.specs.declared.Located.{Located}
+use Prim.Native.Nat.{ℕ, ◌+◌, ◌*◌, ◌-◌, ◌/◌, ◌<◌}
 use native.Mathlib.Nat.{mul-div_cancel}
 use native.Mathlib.Omega.{arith}
 use lib.ListN.{length}
@@ -9,42 +10,37 @@ use borrow.Author.Tests.{lt-ltb, le-ltb}
 use Rattle.fields.specs.Number.{Bytes}
 use Rattle.rules.specs.declared.Entry.{Entry}
 use Rattle.rules.specs.declared.Offsets.{Offsets as OffsetsOf}
-use Rattle.rules.specs.Refusals.{Judged, gives, refuses, refusal, then, refusal_in}
+use Rattle.rules.specs.Refusals.{gives, refuses}
 use Rattle.rules.specs.Tasks.{Set}
 use Rattle.rules.specs.Setting.{Tables}
 use Rattle.rules.specs.Judging.{judge_tables}
 use Rattle.rules.specs.Marks.{ID, PV, size, head_count_of}
 use Rattle.rules.specs.Offsets.{last_offset}
-use Rattle.rules.specs.Operations.{rebuilt}
-use Rattle.rules.specs.Located.{located, no_refusal}
+use Rattle.std.specs.Prelude.{Ok, Err}
+use Rattle.rules.specs.Operations.{check_tables}
+use Rattle.rules.specs.Located.{located, bare}
 use Rattle.rules.specs.Image.{head_count, head_length, table_image}
-use Rattle.rules.proofs.Cases.{by_eq, by_le, clash}
+use Rattle.rules.proofs.Cases.{by_eq, by_le}
 use Rattle.rules.proofs.Images.{records_before, framed_tables}
 use Rattle.rules.proofs.Locations.{run_located}
 use Rattle.rules.proofs.RecordOffsets.{idles_begin, inversions_begin}
 use Rattle.rules.proofs.ShownAt.{Stand}
 use Rattle.rules.proofs.OffsetReplay.{first_inversion_offset}
 use Rattle.rules.proofs.WastedRecords.{judged_unused, judged_wasted, judged_accepted}
-use Rattle.sets.specs.Sets.{FirstFault}
-use Rattle.sets.specs.Kept.{Rows, tasks_in}
+use Rattle.sets.specs.declared.Kept.{Kept}
+use Rattle.sets.specs.Kept.{tasks_in}
 use Rattle.decision.specs.declared.Found.{Found}
-use Rattle.decision.specs.declared.NextStart.TheVariants.{Starts, Stuck}
 use Rattle.replay.specs.Runs.{Ends, cycle_of}
 use Rattle.replay.proofs.Cycles.{CycleDone, cycle_stand, cycle_stuck, cycle_done}
-use Rattle.tables.specs.Replayed.{RefusalTold, behind_idles, Ended, unused_at, CanCompare}
+use Rattle.tables.specs.Replayed.{behind_idles, Ended, unused_at, CanCompare}
 
 -- how many records of one size lie before an offset
 quotient : (offset from records length₀ : ℕ) → 0 < length₀ → offset ≡ from + records * length₀ → (offset - from) / length₀ ≡ records
 quotient offset from records length₀ positive e =
     let gone : offset - from ≡ records * length₀ = omega arith in rw gone (mul-div_cancel records positive)
 
--- a refusal goes through what follows
-refusal_through : {A B : Type 0} (z : Judged A) (next : A → B) → refusal_in (then z (λ (a : A). gives (next a))) ≡ refusal_in z
-refusal_through (gives a) next = refl
-refusal_through (refuses r) next = refl
-
 -- an image that may be replayed, and what replay of its cycle comes to
-module _ {ts : Set} {bytes : List ℕ} {kept : Rows} {idles : ℕ} {first : OffsetsOf} (are-bytes : Bytes bytes)
+module _ {ts : Set} {bytes : List ℕ} {kept : Kept} {idles : ℕ} {first : OffsetsOf} (are-bytes : Bytes bytes)
     (given : CanCompare ts bytes kept idles first) where
   -- the tables that are replayed, and the run through the cycle
   abbrev X : Tables
@@ -53,26 +49,19 @@ module _ {ts : Set} {bytes : List ℕ} {kept : Rows} {idles : ℕ} {first : Offs
   abbrev run : Ends
   run = cycle_of ts bytes kept first
 
-  -- the image comes to what judging the tables comes to
-  image_told : refusal_in (rebuilt bytes) ≡ refusal_in (judge_tables ts X)
-  image_told = rw given.can.read (refusal_through (judge_tables ts X) (λ (τ : List Entry). record { set = ts; entries = τ }))
-
   -- a refusal of the tables is told
-  refused_so : (number place offset : ℕ) → judge_tables ts X ≡ refuses (refusal (suc number) place) →
-      record { number = suc number; place = place; offset = offset } ≡ located bytes (refusal (suc number) place) →
-      RefusalTold bytes (rebuilt bytes) (record { number = suc number; place = place; offset = offset })
-  unfolding FirstFault
-  refused_so number place offset e there = record { first = sym (image_told ∙ ap refusal_in e); no_place = λ z. clash (cc); there = there }
+  refused_so : (r : Located) → judge_tables ts X ≡ refuses (bare r) → r ≡ located bytes (bare r) → Err r ≡ check_tables bytes
+  unfolding check_tables
+  refused_so r e there = rw (given.can.read, e) (ap Err there)
 
   -- and that there is none
-  accepted_so : (τ : List Entry) → judge_tables ts X ≡ gives τ → RefusalTold bytes (rebuilt bytes) no_refusal
-  unfolding FirstFault
-  accepted_so τ e = record { first = sym (image_told ∙ ap refusal_in e); no_place = λ z. refl; there = refl }
+  accepted_so : (τ : List Entry) → judge_tables ts X ≡ gives τ → Ok tt ≡ check_tables bytes
+  unfolding check_tables
+  accepted_so τ e = rw (given.can.read, e)
 
   -- the cycle is stuck: 18 at the number of starts
-  pub replay_at_late : (number : ℕ) → run.last ≡ Stuck number →
-      RefusalTold bytes (rebuilt bytes) (record { number = 18; place = length run.entries; offset = 0 })
-  replay_at_late number e = refused_so 17 (length run.entries) 0 (cycle_stuck are-bytes given.can number e) refl
+  pub replay_at_late : (number : ℕ) → run.last ≡ Err number → Err (record { number = 18; place = length run.entries; offset = 0 }) ≡ check_tables bytes
+  replay_at_late number e = refused_so _ (cycle_stuck are-bytes given.can number e) refl
 
   -- its bytes are those of the set and the tables
   is_image : bytes ≡ table_image ts X
@@ -90,7 +79,7 @@ module _ {ts : Set} {bytes : List ℕ} {kept : Rows} {idles : ℕ} {first : Offs
   inversions_behind : behind_idles first.idle idles ≡ first_inversion_offset ts X
   inversions_behind = omega (arith, first_idle, given.idle_records)
 
-  module _ (f : Found) (e : run.last ≡ Starts f) where
+  module _ (f : Found) (e : run.last ≡ Ok f) where
     -- all starts are found: where replay ended
     done : CycleDone bytes ts X run.entries f.idle run.wasted
     done = cycle_done are-bytes given.can f e
@@ -108,7 +97,7 @@ module _ {ts : Set} {bytes : List ℕ} {kept : Rows} {idles : ℕ} {first : Offs
     }
 
     -- and 19, or nothing, is told of them
-    pub replay_at_done : RefusalTold bytes (rebuilt bytes) (unused_at (head_count_of (tasks_in kept)) idles first.idle f.idle run.wasted)
+    pub replay_at_done : unused_at (head_count_of (tasks_in kept)) idles first.idle f.idle run.wasted ≡ check_tables bytes
     unfolding unused_at
     replay_at_done =
         let good = given.can.good in
@@ -135,7 +124,7 @@ module _ {ts : Set} {bytes : List ℕ} {kept : Rows} {idles : ℕ} {first : Offs
           given.idle_records,
         ) in
         rw (lt-ltb wasted last_offset low, place)
-        (refused_so 18 (head_count ts + length X.idles + q) wasted judged
+        (refused_so _ judged
         (run_located bytes 19 refl (head_count ts + length X.idles) (first_inversion_offset ts X) PV (length X.inversions)
         (inversions_begin bytes ts X is_image) q (omega (arith, bound)) _ wasted refl there)))))
         (λ unused.
@@ -143,5 +132,5 @@ module _ {ts : Set} {bytes : List ℕ} {kept : Rows} {idles : ℕ} {first : Offs
         let place : head_count_of (tasks_in kept) + (idle - first.idle) / size ID ≡ head_count ts + q =
         omega (arith, quotient idle first.idle q (size ID) (omega arith) (omega (arith, first_idle, there)), given.can.keeps.n_tasks) in
         rw (lt-ltb idle behind unused, place)
-        (refused_so 18 (head_count ts + q) idle judged
+        (refused_so _ judged
         (run_located bytes 19 refl (head_count ts) (head_length ts) ID (length X.idles) (idles_begin bytes ts X is_image) q (omega (arith, bound)) _ idle refl there)))

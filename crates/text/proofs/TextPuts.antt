@@ -1,47 +1,29 @@
--- Texts put at a place of an output, one behind the other. Assumes nothing.
-use mathlib.Core.Path.{◌≡◌, sym, ◌∙◌, ap}
+-- Texts put on a page, one behind the other. Assumes nothing.
+use mathlib.Core.Path.{◌≡◌, refl, sym, ◌∙◌, ap}
 use mathlib.Core.List.{List, [], ◌∷◌, ◌++◌}
-use Prim.Native.Nat.{ℕ, ◌+◌, ◌≤◌, ◌<◌}
+use Prim.Native.Nat.{ℕ, ◌+◌, ◌≤◌}
 use native.Mathlib.Nat.{zero-add}
-use native.Mathlib.Numerals.{add-one}
 use native.Mathlib.Omega.{arith}
-use lib.ListN.{length, get_or, take, drop, set, length-append}
-use lib.Seq.{length-take-le, take-suc}
+use borrow.Rule.Slice.PartMut.{put_mid}
+use lib.ListN.{length, drop, set, length-append}
+use Rattle.std.specs.Borrow.{MutBor}
+use Rattle.std.proofs.lemmas.List.Edits.{paste_all}
+use Rattle.std.proofs.lemmas.Slice.{put_mid-paste}
 use Rattle.writing.specs.Writing.{put_at}
-use Rattle.writing.proofs.Puts.{put_fits, put_sets, put_length, put_next}
-use Rattle.io.specs.Digits.{last_digits, IsDigitCount}
-use Rattle.text.specs.Text.{decimal, number_then}
+use Rattle.writing.proofs.Puts.{put_fits, put_sets, put_next, put_none}
+use Rattle.text.specs.declared.Page.{Page}
 use Rattle.text.specs.Puts.{PutAt, AtFront}
-use Rattle.text.proofs.Decimal.{fewest_digits}
+use Rattle.text.specs.Pages.{Opened, Fits, Puts}
 
--- a byte stored right behind bytes that were put is put with them
-pub put_byte : (old : List ℕ) (at : ℕ) (xs : List ℕ) (k x : ℕ) → k ≡ at + length xs → k < length old →
-    set (put_at old at xs) k x ≡ put_at old at (xs ++ (x ∷ []))
-put_byte old at xs k x e h =
-    rw e
-    (sym (put_sets (put_at old at xs) (at + length xs) (x ∷ []) (omega (arith, put_length old at xs)))
-    ∙ put_next old at xs (x ∷ []) (omega (arith, length-append xs (x ∷ []))))
+-- a byte stored at a place
+pub byte_put : (old : List ℕ) (at x : ℕ) → at + 1 ≤ length old → set old at x ≡ put_at old at (x ∷ [])
+byte_put old at x h = sym (put_sets old at (x ∷ []) h)
 
--- a byte more of a list
-pub put_one_more : (old : List ℕ) (at : ℕ) (bytes : List ℕ) (i : ℕ) → i < length bytes → at + length bytes ≤ length old →
-    set (put_at old at (take i bytes)) (at + i) (get_or bytes i 0) ≡ put_at old at (take (i + 1) bytes)
-put_one_more old at bytes i l h =
-    let many : length (take i bytes) ≡ i = length-take-le i bytes (omega arith) in
-    put_byte old at (take i bytes) (at + i) (get_or bytes i 0) (omega arith) (omega arith)
-    ∙ ap (put_at old at) (sym (rw add-one (take-suc bytes i 0 l)))
-
--- a text no longer than an output fits at its front
-pub front_fits : (old text : List ℕ) → length text ≤ length old → 0 + length text ≤ length old
-front_fits old text h = omega arith
-
--- where two texts fit one behind the other, the first fits
-pub first_fits : (old : List ℕ) (at : ℕ) (xs ys : List ℕ) → at + length (xs ++ ys) ≤ length old → at + length xs ≤ length old
-first_fits old at xs ys h = omega (arith, length-append xs ys)
-
--- and, when it is put, the second behind it
-pub second_fits : {old : List ℕ} {at : ℕ} {xs : List ℕ} {r : ℕ} {out : List ℕ} (ys : List ℕ) → at + length (xs ++ ys) ≤ length old →
-    PutAt old at xs r out → r + length ys ≤ length out
-second_fits {old} {at} {xs} ys h a = omega (arith, length-append xs ys, a.behind, ap length a.put, put_length old at xs)
+-- bytes copied to a place
+pub bytes_put : (old : List ℕ) (at k : ℕ) (bytes : List ℕ) {over : List ℕ} → over ≡ bytes → length bytes ≡ k → at + length bytes ≤ length old →
+    put_mid at k old over ≡ put_at old at bytes
+bytes_put old at k bytes e many h =
+    put_mid-paste at k old _ bytes (length bytes) e many refl ∙ paste_all old at bytes (length bytes) refl ∙ sym (put_fits old at bytes h)
 
 -- a text put behind another is put with it
 pub texts_put : {old : List ℕ} {at : ℕ} {xs ys : List ℕ} {r q : ℕ} {out last : List ℕ} → at + length (xs ++ ys) ≤ length old →
@@ -51,32 +33,23 @@ texts_put {old} {at} {xs} {ys} {r} {q} {out} {last} h a b = record {
   put = b.put ∙ rw (a.put, a.behind) (put_next old at xs ys h);
 }
 
--- a number's digits, as the kit puts them, where it fits with the character behind it
-module _ (old : List ℕ) (at n behind k : ℕ) (text : List ℕ) (h : at + length (number_then n behind) ≤ length old) (f : IsDigitCount 10 1 n k)
-    (e : take k text ≡ last_digits 10 k n) where
-  -- they fit
-  pub digits_fit : at + length (take k text) ≤ length old
-  digits_fit = rw (e ∙ fewest_digits n k f) (first_fits old at (decimal n) (behind ∷ []) h)
+pub both_put : {p q r : Page} {xs ys : List ℕ} → Fits (xs ++ ys) p → Puts xs p q → Puts ys q r → Puts (xs ++ ys) p r
+both_put h a b = record { same = b.same ∙ a.same; same_length = b.same_length ∙ a.same_length; put = texts_put h a.put b.put }
 
-  -- and with them the character is put
-  pub number_put : {r : ℕ} {out : List ℕ} → PutAt old at (take k text) r out →
-      (r < length out) × PutAt old at (number_then n behind) (r + 1) (set out r behind)
-  number_put {r} {out} p =
-      let a : PutAt old at (decimal n) r out = rw (e ∙ fewest_digits n k f) at p in
-      let many = length-append (decimal n) (behind ∷ []) in (
-        omega (arith, a.behind, ap length a.put, put_length old at (decimal n)),
-        record {
-          behind = omega (arith, a.behind);
-          put = ap (λ (o : List ℕ). set o r behind) a.put ∙ put_byte old at (decimal n) r behind a.behind (omega (arith, a.behind));
-        },
-      )
+-- no text
+pub none_put : (p : Page) → p.at ≤ length p.out.now → Puts [] p p
+none_put p h = record { same = refl; same_length = refl; put = record { behind = omega arith; put = sym (put_none p.out.now p.at h) } }
 
 -- a text put at the front
 pub text_at_front : {old text : List ℕ} {r : ℕ} {out : List ℕ} → length text ≤ length old → PutAt old 0 text r out → AtFront text old r out
 text_at_front {old} {text} h a = record {
   many = omega (arith, a.behind);
-  front = a.put ∙ put_fits old 0 text (front_fits old text h) ∙ rw (zero-add (length text));
+  front = a.put ∙ put_fits old 0 text (omega arith) ∙ rw (zero-add (length text));
 }
+
+pub page_front : {out : MutBor (List ℕ)} {p q : Page} {text : List ℕ} → Opened out p → length text ≤ length out.now → Puts text p q →
+    AtFront text out.now q.at q.out.now
+page_front o h a = text_at_front h (rw (o.front, o.kept) at a.put)
 
 -- and its length is within the output
 pub front_inside : {text old : List ℕ} {r : ℕ} {out : List ℕ} → AtFront text old r out → r ≤ length out

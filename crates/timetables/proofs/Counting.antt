@@ -13,7 +13,8 @@ use Rattle.rules.specs.Marks.{SL, size}
 use Rattle.rules.specs.Image.{head_length}
 use Rattle.rules.proofs.Cases.{by_bool, by_eq}
 use Rattle.rules.proofs.PriorityLaws.{StartKeepsRules}
-use Rattle.sets.specs.Kept.{Rows, tasks_in}
+use Rattle.sets.specs.declared.Kept.{Kept}
+use Rattle.sets.specs.Kept.{tasks_in}
 use Rattle.timetables.specs.declared.Counts.{Counts}
 use Rattle.timetables.specs.Entries.{entry_in, entries_at}
 use Rattle.timetables.specs.Judged.{entries_behind}
@@ -126,7 +127,7 @@ module _ {ts : Set} {bytes : List ℕ} {next : List ℕ} {free at j : ℕ} {c : 
         slots = slots;
       }
 
-  module _ {kept : Rows} {releases : List ℕ} (w : AtEntry ts kept releases next at j) (slots : length c.each ≡ 16) (e : Entry)
+  module _ {kept : Kept} {releases : List ℕ} (w : AtEntry ts kept releases next at j) (slots : length c.each ≡ 16) (e : Entry)
       (is : e ≡ entry_in bytes at) (keeps : StartKeepsRules ts (hyperperiod ts) next free e.task e.start) where
     -- what has started after the entry
     abbrev next_after : List ℕ

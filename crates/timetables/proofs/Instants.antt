@@ -1,5 +1,5 @@
 -- What the array of next releases says of an entry that breaks no rule: the forced idle before it, and whether it is an inversion. Assumes nothing.
-use Rattle.std.proofs.Common.{◌≡◌, ℕ, zero, suc, ◌+◌, ◌-◌, ◌<◌, ◌≤◌, min, max, true, false, ltb, leb, List, [], ◌∷◌, length, get_or, take, sym, refl, ap, ◌∙◌, add-one, arith, length-take, get_or-take, ltb-false, le-ltb, lt-ltb, le-leb, leb-false, leb-true}
+use Rattle.std.proofs.Common.{◌≡◌, ℕ, zero, suc, ◌+◌, ◌-◌, ◌<◌, ◌≤◌, min, max, true, false, ltb, leb, List, [], ◌∷◌, length, get_or, take, sym, refl, ap, ◌∙◌, arith, length-take, get_or-take, ltb-false, le-ltb, lt-ltb, le-leb, leb-false, leb-true}
 use borrow.Author.Tests.{lt-leb}
 use Rattle.fields.specs.Body.{head₀, tail₀}
 use Rattle.rules.specs.declared.Task.{Task}
@@ -8,7 +8,7 @@ use Rattle.rules.specs.Tasks.{Set, task, release, no_task, KeepsItsRule}
 use Rattle.rules.specs.Setting.{instant}
 use Rattle.rules.specs.Priority.{slot, start_job, least_release, waiting, setting_of}
 use Rattle.rules.specs.Irregularities.{runs, forced_idles}
-use Rattle.rules.proofs.Cases.{by_bool, by_le, differ}
+use Rattle.rules.proofs.Cases.{by_bool, differ}
 use Rattle.rules.proofs.PriorityLaws.{StartKeepsRules, least_below, never_waits}
 use Rattle.rules.proofs.Gaps.{no_gap, whole_gap}
 use Rattle.rules.proofs.ForcedIdle.{released_in_cycle}
@@ -34,36 +34,36 @@ least_first zero rs l = refl
 least_first (suc n) [] l = absurd (omega arith)
 least_first (suc n) (r ∷ rs) l = ap (min r) (least_first n rs (omega arith))
 
--- the least of one instant more
-pub least_more : (rs : List ℕ) (i : ℕ) → i < length rs → least_of (take (i + 1) rs) ≡ min (least_of (take i rs)) (get_or rs i 0)
-least_more rs i l = ap (λ (k : ℕ). least_of (take k rs)) (add-one i) ∙ least_suc rs i l
-  where
-    least_suc : (us : List ℕ) (k : ℕ) → k < length us → least_of (take (suc k) us) ≡ min (least_of (take k us)) (get_or us k 0)
-    least_suc [] k h = absurd (omega arith)
-    least_suc (u ∷ us) zero h = omega arith
-    least_suc (u ∷ us) (suc k) h = omega (arith, least_suc us k (omega arith))
-
 -- the least of instants is not above any of them
-pub least_not_above : (rs : List ℕ) (n i : ℕ) → i < n → i < length rs → least_of (take n rs) ≤ get_or rs i 0
-least_not_above [] n i a l = absurd (omega arith)
-least_not_above (r ∷ rs) zero i a l = absurd (omega arith)
-least_not_above (r ∷ rs) (suc n) zero a l = omega arith
-least_not_above (r ∷ rs) (suc n) (suc i) a l = omega (arith, least_not_above rs n i (omega arith) (omega arith))
+least_not_above : (rs : List ℕ) (i : ℕ) → i < length rs → least_of rs ≤ get_or rs i 0
+least_not_above [] i l = absurd (omega arith)
+least_not_above (r ∷ rs) zero l = omega arith
+least_not_above (r ∷ rs) (suc i) l = omega (arith, least_not_above rs i (omega arith))
 
--- behind a free instant the least alone decides
-pub later_least : (f r s : ℕ) → f < s → ltb (max f r) s ≡ ltb r s
-later_least f r s l =
-    by_le s r (λ a. let b : s ≤ max f r = omega arith in rw (le-ltb (max f r) s b, le-ltb r s a))
-    (λ a. let b : max f r < s = omega arith in rw (lt-ltb (max f r) s b, lt-ltb r s a))
+pub least_of_first : (rs : List ℕ) (n i : ℕ) → i < n → i < length rs → least_of (take n rs) ≤ get_or rs i 0
+least_of_first rs n i a l = rw get_or-take at (least_not_above (take n rs) i (omega (arith, length-take n rs)))
 
--- where none of the first has come, nor the next, none of one more has
-pub none_more : (s : ℕ) (rs : List ℕ) (i : ℕ) → i < length rs → some_by s (take i rs) ≡ false → s < get_or rs i 0 → some_by s (take (i + 1) rs) ≡ false
-none_more s rs i l none past = ap (λ (k : ℕ). some_by s (take k rs)) (add-one i) ∙ none_suc rs i l none past
-  where
-    none_suc : (us : List ℕ) (k : ℕ) → k < length us → some_by s (take k us) ≡ false → s < get_or us k 0 → some_by s (take (suc k) us) ≡ false
-    none_suc [] k h e g = absurd (omega arith)
-    none_suc (u ∷ us) zero h e g = rw (lt-leb u s g)
-    none_suc (u ∷ us) (suc k) h e g = by_bool (leb u s) (λ b. differ (rw b at e)) (λ b. rw b (none_suc us k (omega arith) (rw b at e) g))
+-- and not below what none of them is below
+least_above : (s : ℕ) (rs : List ℕ) → s ≤ never → ((k : ℕ) → k < length rs → s ≤ get_or rs k 0) → s ≤ least_of rs
+least_above s [] le all = le
+least_above s (r ∷ rs) le all = omega (arith, all 0 (omega arith), least_above s rs le (λ k l. all (suc k) (omega arith)))
+
+-- whether one of them is earlier
+pub one_earlier : (s : ℕ) (rs : List ℕ) (k : ℕ) → k < length rs → get_or rs k 0 < s → true ≡ ltb (least_of rs) s
+one_earlier s rs k l earlier = sym (lt-ltb _ _ (omega (arith, least_not_above rs k l)))
+
+pub none_earlier : (s : ℕ) (rs : List ℕ) → s ≤ never → ((k : ℕ) → k < length rs → s ≤ get_or rs k 0) → false ≡ ltb (least_of rs) s
+none_earlier s rs le all = sym (le-ltb _ _ (least_above s rs le all))
+
+-- whether one of them has come
+pub one_come : (s : ℕ) (rs : List ℕ) (k : ℕ) → k < length rs → get_or rs k 0 ≤ s → true ≡ some_by s rs
+one_come s [] k l come = absurd (omega arith)
+one_come s (r ∷ rs) zero l come = rw (le-leb r s come)
+one_come s (r ∷ rs) (suc k) l come = by_bool (leb r s) (λ b. rw b) (λ b. rw b (one_come s rs k (omega arith) come))
+
+pub none_come : (s : ℕ) (rs : List ℕ) → ((k : ℕ) → k < length rs → s < get_or rs k 0) → false ≡ some_by s rs
+none_come s [] none = refl
+none_come s (r ∷ rs) none = rw (lt-leb r s (none 0 (omega arith))) (none_come s rs (λ k l. none (suc k) (omega arith)))
 
 -- an instant that has come is one of those asked for
 some_found : (s : ℕ) (rs : List ℕ) → some_by s rs ≡ true → (k : ℕ) × (k < length rs) × (get_or rs k 0 ≤ s)
@@ -77,12 +77,6 @@ none_found : (s : ℕ) (rs : List ℕ) → some_by s rs ≡ false → (k : ℕ) 
 none_found s [] e k l = absurd (omega arith)
 none_found s (r ∷ rs) e zero l = by_bool (leb r s) (λ b. differ (rw b at e)) (λ b. leb-false r s b)
 none_found s (r ∷ rs) e (suc k) l = by_bool (leb r s) (λ b. differ (rw b at e)) (λ b. none_found s rs (rw b at e) k (omega arith))
-
--- one of the first that has come
-pub some_in : (s : ℕ) (rs : List ℕ) (i k : ℕ) → k < i → k < length rs → get_or rs k 0 ≤ s → some_by s (take i rs) ≡ true
-some_in s rs i k lt l come =
-    by_bool (some_by s (take i rs)) (λ b. b)
-    (λ b. absurd (omega (arith, none_found s (take i rs) b k (omega (arith, length-take i rs)), get_or-take i rs k 0 lt)))
 
 module _ (ts : Set) (h : ℕ) (x : List ℕ) (left : LeftByRelease h ts.tasks) where
   -- a task whose next release has come in the cycle is waiting, and no other

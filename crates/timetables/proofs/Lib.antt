@@ -1,5 +1,4 @@
 pub mod Releases
-pub mod Wrapped
 pub mod StartRules
 pub mod FirstReleases
 pub mod Instants

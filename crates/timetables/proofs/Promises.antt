@@ -1,17 +1,17 @@
 -- What whoever checks a timetable image can rely on, from the contracts alone: one answer; Accepted for exactly the images of a good set and a valid
 -- timetable; and a refusal for exactly the first test that refuses. And judging comes to one result. Assumes nothing.
-use Rattle.std.proofs.Common.{◌≡◌, ℕ, Bool, ◌↔◌, List, length, sym, ap, ◌∙◌, arith, ext_get_or}
+use Rattle.std.proofs.Common.{Result, Ok, Err, ◌≡◌, ℕ, Bool, ◌↔◌, List, length, sym, ap, ◌∙◌, arith, ext_get_or}
 use Rattle.fields.specs.Number.{Bytes}
 use Rattle.rules.specs.declared.Entry.{Entry}
 use Rattle.rules.specs.declared.Refusal.{Refusal}
-use Rattle.rules.specs.declared.CheckAnswer.{CheckAnswer}
-use Rattle.rules.specs.declared.CheckAnswer.TheVariants.{Accepted, Refused}
+use Rattle.rules.specs.declared.Located.{Located}
+use Rattle.std.specs.Prelude.{⊤}
 use Rattle.rules.specs.Refusals.{gives, refuses}
 use Rattle.rules.specs.Judging.{tables}
 use Rattle.rules.specs.Located.{located, bare}
 use Rattle.rules.specs.Operations.{Timed, derived, check_timetable}
 use Rattle.rules.specs.Promised.{TimetableImage, RefusesTimetableImage}
-use Rattle.rules.proofs.Cases.{by_bool, by_nat, clash, gives_in}
+use Rattle.rules.proofs.Cases.{by_bool, clash, gives_in}
 use Rattle.rules.proofs.Locations.{one_refused}
 use Rattle.rules.proofs.Demand2.{accepts_timetable}
 use Rattle.rules.proofs.Promises.{timetable_order}
@@ -21,25 +21,26 @@ use Rattle.timetables.specs.declared.Timetable.{Timetable}
 use Rattle.rules.specs.Tasks.{Set, memory_set}
 use Rattle.rules.specs.Image.{head_length}
 use Rattle.rules.proofs.GoodSets.{set_good}
-use Rattle.sets.specs.Kept.{Rows, hyperperiod_in}
+use Rattle.sets.specs.declared.Kept.{Kept}
+use Rattle.sets.specs.Kept.{hyperperiod_in}
 use Rattle.timetables.specs.Counted.{Counted}
-use Rattle.timetables.specs.Judged.{entries_behind, refused_with, Good, JudgedAs}
+use Rattle.timetables.specs.Judged.{entries_behind, Good, JudgedAs}
 use Rattle.timetables.proofs.EntriesRead.{entries_length}
 
 -- the contract of `check` leaves one answer
-pub one_answer : (bytes : List ℕ) (r q : CheckAnswer) → r ≡ check_timetable bytes → q ≡ check_timetable bytes → r ≡ q
+pub one_answer : (bytes : List ℕ) (r q : Result ⊤ Located) → r ≡ check_timetable bytes → q ≡ check_timetable bytes → r ≡ q
 one_answer bytes r q e f = e ∙ sym f
 
 -- the answer is Accepted exactly where the bytes are the image of a good set and a valid timetable of it
-pub accepted_exactly : (bytes : List ℕ) → Bytes bytes → (r : CheckAnswer) → r ≡ check_timetable bytes →
-    (r ≡ Accepted) ↔ ((ts : Set) × (τ : List Entry) × TimetableImage bytes ts τ)
+pub accepted_exactly : (bytes : List ℕ) → Bytes bytes → (r : Result ⊤ Located) → r ≡ check_timetable bytes →
+    (r ≡ Ok tt) ↔ ((ts : Set) × (τ : List Entry) × TimetableImage bytes ts τ)
 accepted_exactly bytes b r e =
     let exactly = accepts_timetable bytes b in
     (λ a. exactly.0 (sym e ∙ a), λ w. e ∙ exactly.1 w)
 
 -- it is a refusal exactly where that is the first that the document's order comes to
-pub refused_exactly : (bytes : List ℕ) (r : CheckAnswer) → r ≡ check_timetable bytes → (q : Refusal) →
-    (r ≡ Refused (located bytes q)) ↔ RefusesTimetableImage bytes q
+pub refused_exactly : (bytes : List ℕ) (r : Result ⊤ Located) → r ≡ check_timetable bytes → (q : Refusal) →
+    (r ≡ Err (located bytes q)) ↔ RefusesTimetableImage bytes q
 refused_exactly bytes r e q =
     let exactly = timetable_order bytes q in
     (λ a. exactly.0 (sym e ∙ a), λ w. e ∙ exactly.1 w)
@@ -53,7 +54,7 @@ counts_same c d a b =
     λ i. record { idles = idles i; inversions = inversions i; each = each i }
 
 -- what is judged good is told by the image
-module _ {bytes : List ℕ} {count : Bool} {t u : Timetable} {kept rows : Rows} (g : Good bytes count t kept) (k : Good bytes count u rows) where
+module _ {bytes : List ℕ} {count : Bool} {t u : Timetable} {kept rows : Kept} (g : Good bytes count t kept) (k : Good bytes count u rows) where
   -- what the image holds
   abbrev held : Timetable → Timed
   held v = record { set = memory_set v.set; entries = entries_behind bytes (memory_set v.set) v.listed }
@@ -89,11 +90,10 @@ module _ {bytes : List ℕ} {count : Bool} {t u : Timetable} {kept rows : Rows} 
   -- and all of it
   good_same : t ≡ u
   good_same =
-      let r : t.refusal ≡ u.refusal = g.not_refused ∙ sym k.not_refused in
-      λ i. record { refusal = r i; set = same_set i; listed = same_listed i; counts = same_counts i }
+      λ i. record { set = same_set i; listed = same_listed i; counts = same_counts i }
 
 -- what is judged good is not refused
-good_derived : {bytes : List ℕ} {count : Bool} {t : Timetable} {kept : Rows} → Good bytes count t kept → (r : Refusal) → derived bytes ≡ refuses r → ⊥
+good_derived : {bytes : List ℕ} {count : Bool} {t : Timetable} {kept : Kept} → Good bytes count t kept → (r : Refusal) → derived bytes ≡ refuses r → ⊥
 good_derived {bytes} {t = t} {kept} g r e =
     let ts = memory_set t.set in
     let given : derived bytes ≡ gives (record { set = ts; tables = tables ts (entries_behind bytes ts t.listed) }) =
@@ -102,15 +102,9 @@ good_derived {bytes} {t = t} {kept} g r e =
     clash (cc)
 
 -- the contract of `judge` leaves one result
-pub one_judgement : {bytes : List ℕ} {count : Bool} {kept rows : Rows} (t u : Timetable) → JudgedAs bytes count t kept → JudgedAs bytes count u rows → t ≡ u
-one_judgement t u a b =
-    by_nat t.refusal.number
-    (λ y. by_nat u.refusal.number
-    (λ z. good_same (a.good y) (b.good z))
-    (λ m z. absurd (good_derived (a.good y) (bare u.refusal) (b.refused (λ q. omega (arith, q, z))).0.judged)))
-    (λ l y. by_nat u.refusal.number
-    (λ z. absurd (good_derived (b.good z) (bare t.refusal) (a.refused (λ q. omega (arith, q, y))).0.judged))
-    (λ m z.
-    let v = a.refused (λ q. omega (arith, q, y)) in
-    let w = b.refused (λ q. omega (arith, q, z)) in
-    v.1 ∙ ap refused_with (one_refused v.0 w.0) ∙ sym w.1))
+pub one_judgement : (bytes : List ℕ) (count : Bool) (kept rows : Kept) (a b : Result Timetable Located) → JudgedAs bytes count a kept →
+    JudgedAs bytes count b rows → a ≡ b
+one_judgement bytes count kept rows (Ok t) (Ok u) g k = ap Ok (good_same g k)
+one_judgement bytes count kept rows (Ok t) (Err r) g q = absurd (good_derived g (bare r) q.judged)
+one_judgement bytes count kept rows (Err r) (Ok t) q g = absurd (good_derived g (bare r) q.judged)
+one_judgement bytes count kept rows (Err r) (Err s) p q = ap Err (one_refused p q)

@@ -1,6 +1,8 @@
 -- A turn of a walk through a timetable's entries: what the array of next releases holds before and after an entry that breaks no rule, its bounds, and
 -- what the entry adds to the tables. Assumes nothing.
 use Rattle.std.proofs.Common.{◌≡◌, ℕ, suc, ◌+◌, ◌-◌, ◌*◌, ◌<◌, ◌≤◌, true, false, List, [], ◌∷◌, length, get_or, take, set, sym, refl, ap, ◌∙◌, arith, length-set, get_or-take, take-take, le-ltb, lt-ltb}
+use Rattle.std.specs.Prelude.{nat_lt, MatchOption}
+use Rattle.std.specs.List.{position}
 use lib.Seq.{take-set-lt}
 use Rattle.rules.specs.declared.Entry.{Entry}
 use Rattle.rules.specs.declared.Inversion.{Inversion}
@@ -12,48 +14,50 @@ use Rattle.rules.specs.Image.{head_length}
 use Rattle.rules.specs.Irregularities.{runs, forced_idles, inversion_of, inversions}
 use Rattle.rules.specs.Judging.{missing_from}
 use Rattle.rules.proofs.Cases.{by_le}
-use Rattle.rules.proofs.Arrays.{slot_element}
 use Rattle.rules.proofs.GoodSets.{good_rules}
 use Rattle.rules.proofs.PriorityLaws.{StartKeepsRules, due_in_cycle}
 use Rattle.rules.proofs.Pairs.{inversion_path}
 use Rattle.rules.proofs.Writable.{insert_length}
-use Rattle.sets.specs.Kept.{Rows, tasks_in, hyperperiod_in, times_in, periods_in, first_in, Keeps}
-use Rattle.sets.specs.Scans.{lowest_below}
+use Rattle.sets.specs.declared.Kept.{Kept}
+use Rattle.sets.specs.Kept.{tasks_in, hyperperiod_in, times_in, periods_in, slack_in, first_in, Keeps}
 use Rattle.timetables.specs.Walks.{next_releases, entry_breaks}
 use Rattle.timetables.specs.Counted.{task_inversions}
 use Rattle.timetables.specs.Instants.{instant_of, inverts}
-use Rattle.timetables.proofs.Releases.{good_releases, release_in_slot, release_stored, release_follows, release_in_cycle}
-use Rattle.timetables.proofs.StartRules.{breaks_no_task, breaks_of_task, lowest_missing}
+use Rattle.timetables.proofs.Releases.{releases_length, good_releases, release_in_slot, release_stored, release_follows, release_in_cycle}
+use Rattle.timetables.proofs.StartRules.{number_of, breaks_no_task, breaks_of_task, lowest_missing}
 use Rattle.sets.proofs.SetKept.{kept_cycle, kept_good, slack_kept, time_kept, period_kept, period_short}
 use Rattle.timetables.proofs.FirstReleases.{first_releases}
 use Rattle.timetables.proofs.OwnInversions.{other_task, regular, inverted}
 use Rattle.timetables.proofs.Instants.{instant_is, lower_inverts, none_lower_runs, some_left, is_waiting, idle_before, no_idle_before}
 
 -- before entry j, at its byte offset: what is kept of the set, what has started, and the releases of the next jobs
-pub record AtEntry (ts : Set) (kept : Rows) (releases next : List ℕ) (at j : ℕ) : Type 0 where
+pub record AtEntry (ts : Set) (kept : Kept) (releases next : List ℕ) (at j : ℕ) : Type 0 where
   pub keeps : Keeps ts kept
   pub slots : length releases ≡ 16
   pub releases_are : take (tasks_in kept) releases ≡ next_releases ts.tasks next
   pub place : at ≡ head_length ts + j * size SL
 
 -- before the first entry nothing has started
-pub at_first : {ts : Set} {kept : Rows} {at : ℕ} → Keeps ts kept → at ≡ head_length ts → AtEntry ts kept (first_in kept) [] at 0
+pub at_first : {ts : Set} {kept : Kept} {at : ℕ} → Keeps ts kept → at ≡ head_length ts → AtEntry ts kept (first_in kept) [] at 0
 at_first keeps first = record { keeps = keeps; slots = keeps.first_slots; releases_are = first_releases keeps; place = omega arith }
 
 -- the instant from which the processor is free after an entry, and the releases of the next jobs then
-abbrev pub free_after : Rows → Entry → ℕ
+abbrev pub free_after : Kept → Entry → ℕ
 free_after kept e = e.start + get_or (times_in kept) e.task 0
 
-abbrev pub releases_after : Rows → List ℕ → Entry → List ℕ
+abbrev pub releases_after : Kept → List ℕ → Entry → List ℕ
 releases_after kept releases e = set releases e.task (get_or releases e.task 0 + get_or (periods_in kept) e.task 0)
 
 -- a start that breaks no rule, by its task's slots: its job is released, and no sum is large
-pub record GoodStart (kept : Rows) (releases : List ℕ) (e : Entry) : Type 0 where
+pub record GoodStart (kept : Kept) (releases : List ℕ) (e : Entry) : Type 0 where
+  pub a_task : e.task < tasks_in kept
+  pub a_slot : e.task < 16
   pub is_released : get_or releases e.task 0 ≤ e.start
   pub release_fits : get_or releases e.task 0 + get_or (periods_in kept) e.task 0 ≤ 2 * limits.ticks
+  pub latest_fits : get_or releases e.task 0 + get_or (slack_in kept) e.task 0 ≤ limits.ticks
   pub end_fits : free_after kept e ≤ limits.ticks
 
-module _ {ts : Set} {kept : Rows} {releases next : List ℕ} {at j : ℕ} (w : AtEntry ts kept releases next at j) where
+module _ {ts : Set} {kept : Kept} {releases next : List ℕ} {at j : ℕ} (w : AtEntry ts kept releases next at j) where
   -- the set's cycle
   abbrev h : ℕ
   h = hyperperiod ts
@@ -74,18 +78,20 @@ module _ {ts : Set} {kept : Rows} {releases next : List ℕ} {at j : ℕ} (w : A
       ∙ release_in_slot ts.tasks next i no_task (omega (arith, w.keeps.n_tasks))
 
   -- what an entry breaks, by its task's slots
-  pub breaks_in_slots : (f : ℕ) (e : Entry) → breaks ts h next f e.task e.start ≡ entry_breaks kept releases f e
+  pub breaks_in_slots : (f : ℕ) (e : Entry) → breaks ts h next f e.task e.start ≡ number_of (entry_breaks kept releases f e)
   breaks_in_slots f e =
       by_le (tasks_in kept) e.task
       (λ past. rw (le-ltb e.task (tasks_in kept) past) (breaks_no_task ts h next f e.task e.start (omega (arith, w.keeps.n_tasks))))
       (λ l. rw (lt-ltb e.task (tasks_in kept) l, kept_cycle w.keeps, slack_kept w.keeps e.task l, its_release e.task l)
       (breaks_of_task ts h next f e.task e.start (good_releases good) (good_rules good e.task) (omega (arith, w.keeps.n_tasks))))
 
-  -- the lowest task with a job missing, by all tasks' slots
-  pub missing_in_slots : lowest_below (tasks_in kept) 0 (hyperperiod_in kept) releases ≡ missing_from 0 h ts.tasks next
+  -- what a search of the slots for a release in the cycle finds: the lowest task with a job missing
+  pub missing_in_slots : MatchOption (position (λ r. nat_lt r (hyperperiod_in kept)) (take (tasks_in kept) releases))
+      (length ts.tasks ≤ missing_from 0 h ts.tasks next) (λ i. (i < length ts.tasks) × (i ≡ missing_from 0 h ts.tasks next))
   missing_in_slots =
-      rw (kept_cycle w.keeps, w.keeps.n_tasks)
-      (lowest_missing h ts.tasks next releases (λ i l. slot_element releases i ∙ its_release i (omega (arith, w.keeps.n_tasks))) (good_releases good))
+      let lowest = missing_from 0 h ts.tasks next in
+      rw (kept_cycle w.keeps, w.releases_are, lowest_missing h ts.tasks next (good_releases good), releases_length ts.tasks next)
+      (by_le (length ts.tasks) lowest (λ le. rw (le-ltb lowest (length ts.tasks) le) le) (λ lt. rw (lt-ltb lowest (length ts.tasks) lt) (lt, refl)))
 
   module _ {f : ℕ} (e : Entry) (keeps : StartKeepsRules ts h next f e.task e.start) where
     -- the entry is of a task
@@ -109,8 +115,11 @@ module _ {ts : Set} {kept : Rows} {releases next : List ℕ} {at j : ℕ} (w : A
         let is = its_release e.task turn_task in
         let period = period_kept w.keeps e.task turn_task in
         record {
+          a_task = turn_task;
+          a_slot = omega (arith, turn_task, w.keeps.few);
           is_released = omega (arith, is, keeps.released);
           release_fits = omega (arith, is, period, period_short w.keeps e.task turn_task, good.short, release_in_cycle h t k rule keeps.left);
+          latest_fits = omega (arith, is, slack_kept w.keeps e.task turn_task, due_in_cycle h k t rule keeps.left, rule.fits, good.short);
           end_fits = omega (arith, freed, keeps.in_time, due_in_cycle h k t rule keeps.left, good.short);
         }
 

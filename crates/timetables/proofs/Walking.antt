@@ -1,5 +1,5 @@
 -- A walk over the entries of a timetable's image: its invariant, and what each of its ends says. Assumes nothing.
-use Rattle.std.proofs.Common.{◌≡◌, ℕ, ◌+◌, ◌<◌, ◌≤◌, Bool, true, false, ◌⊎◌, List, [], length, sym, refl, ◌∙◌, inl, inr, arith}
+use Rattle.std.proofs.Common.{None, Some, ◌≡◌, ℕ, ◌+◌, ◌<◌, Bool, true, false, ◌⊎◌, List, [], length, take, sym, refl, ◌∙◌, inl, inr, arith}
 use Rattle.rules.specs.declared.Entry.{Entry}
 use Rattle.rules.specs.Tasks.{Set, hyperperiod}
 use Rattle.rules.specs.Priority.{start_job}
@@ -7,25 +7,27 @@ use Rattle.rules.specs.Marks.{SL, size}
 use Rattle.rules.specs.Image.{head_length}
 use Rattle.rules.proofs.Cases.{differ}
 use Rattle.rules.proofs.PriorityLaws.{StartKeepsRules}
-use Rattle.sets.specs.Kept.{Rows, tasks_in, hyperperiod_in, first_in}
+use Rattle.sets.specs.declared.Kept.{Kept}
+use Rattle.sets.specs.Kept.{tasks_in, hyperperiod_in, first_in}
 use Rattle.images.specs.Table.{stands_at}
 use Rattle.images.proofs.TableLaws.{stands_whole}
 use Rattle.framing.specs.Frames.{RunOf}
 use Rattle.framing.proofs.Runs.{none_run, one_more}
 use Rattle.timetables.specs.declared.Counts.{Counts}
-use Rattle.sets.specs.Scans.{lowest_below}
+use Rattle.timetables.specs.declared.Stop.TheVariants.{Broken, Missing, Complete}
+use Rattle.std.specs.Prelude.{nat_lt}
+use Rattle.std.specs.List.{position}
 use Rattle.timetables.specs.Walks.{entry_breaks}
 use Rattle.timetables.specs.Entries.{entry_in}
-use Rattle.timetables.specs.Judged.{EntriesStand, Walked}
+use Rattle.timetables.specs.Judged.{EntriesStand, AllPassed, Walked}
 use Rattle.timetables.specs.Instants.{idles_before, inverts}
 use Rattle.timetables.specs.Counted.{no_counts}
-use Rattle.timetables.proofs.StartRules.{breaks_named}
 use Rattle.timetables.proofs.Turns.{at_first, free_after, releases_after, GoodStart, turn_task, turn_good}
-use Rattle.timetables.proofs.EntriesJudged.{JudgedFrom, judged_first, one_missing, none_missing, entry_refused, entry_keeps, judged_next}
+use Rattle.timetables.proofs.EntriesJudged.{JudgedFrom, judged_first, one_missing, none_missing, its_number, entry_refused, entry_keeps, judged_next}
 use Rattle.timetables.proofs.Counting.{CountedFrom, counted_first, counted_all, counted_next, counted_with, FewSoFar, few_first, few_kept, few_more}
 
 -- before entry j: SL records stand so far, what has started, what is judged, and what is counted where it is asked for
-pub record Walking (ts : Set) (bytes : List ℕ) (kept : Rows) (count : Bool) (releases : List ℕ) (free : ℕ) (c : Counts) (at j : ℕ) : Type 0 where
+pub record Walking (ts : Set) (bytes : List ℕ) (kept : Kept) (count : Bool) (releases : List ℕ) (free : ℕ) (c : Counts) (at j : ℕ) : Type 0 where
   pub next : List ℕ
   pub judged : JudgedFrom ts bytes kept releases next free at j
   pub run : RunOf bytes (head_length ts) SL (length bytes) j
@@ -34,7 +36,7 @@ pub record Walking (ts : Set) (bytes : List ℕ) (kept : Rows) (count : Bool) (r
   pub few : FewSoFar j c
 
 -- before the first entry
-pub walking_first : {ts : Set} {bytes : List ℕ} {kept : Rows} {count : Bool} {at : ℕ} → EntriesStand ts bytes kept 0 → at ≡ head_length ts →
+pub walking_first : {ts : Set} {bytes : List ℕ} {kept : Kept} {count : Bool} {at : ℕ} → EntriesStand ts bytes kept 0 → at ≡ head_length ts →
     Walking ts bytes kept count (first_in kept) 0 no_counts at 0
 walking_first {ts} {bytes} stand place = record {
   next = [];
@@ -45,47 +47,41 @@ walking_first {ts} {bytes} stand place = record {
   few = few_first;
 }
 
-module _ {ts : Set} {bytes : List ℕ} {kept : Rows} {count : Bool} {releases : List ℕ} {free : ℕ} {c : Counts} {at j : ℕ}
+module _ {ts : Set} {bytes : List ℕ} {kept : Kept} {count : Bool} {releases : List ℕ} {free : ℕ} {c : Counts} {at j : ℕ}
     (w : Walking ts bytes kept count releases free c at j) where
-  -- the walk stays inside the image
-  pub walking_inside : at ≤ length bytes
-  walking_inside = omega (arith, w.judged.here.place, w.run.inside)
-
   -- no SL record stands here: the entries end
-  pub walk_ends : stands_at bytes at SL ≡ false → (i : ℕ) → i ≡ lowest_below (tasks_in kept) 0 (hyperperiod_in kept) releases →
-      Walked ts bytes count (record { number = 0; entries = j; missing = i; counts = c })
-  walk_ends no_entry i i-is = record {
-    run = w.run;
-    ends = λ _. rw (← w.judged.here.place) no_entry;
-    job_missing = λ _ l. one_missing w.judged i i-is l;
-    no_fault = λ _ l. none_missing w.judged i i-is l;
-    counted = λ _ asked. counted_all (w.counted asked) w.few.slots;
-    uncounted = w.uncounted;
-    of_an_entry = λ z. absurd (z (omega arith));
-    one_more = λ z. absurd (z (omega arith));
-    broken = λ z. absurd (z (omega arith));
-  }
+  module _ (no_entry : stands_at bytes at SL ≡ false) where
+    all_passed : AllPassed ts bytes count j c
+    all_passed = record { ends = rw (← w.judged.here.place) no_entry; counted = λ asked. counted_all (w.counted asked) w.few.slots }
 
-  module _ (stands : stands_at bytes at SL ≡ true) (e : Entry) (is : e ≡ entry_in bytes at) (number : ℕ)
-      (q : number ≡ entry_breaks kept releases free e) where
+    -- with a job missing
+    pub ends_missing : {i : ℕ} → Some i ≡ position (λ r. nat_lt r (hyperperiod_in kept)) (take (tasks_in kept) releases) →
+        Walked ts bytes count (record { stop = Missing i; entries = j; counts = c })
+    ends_missing q = record { run = w.run; stops = (all_passed, one_missing w.judged q); uncounted = w.uncounted }
+
+    -- or none
+    pub ends_complete : None ≡ position (λ r. nat_lt r (hyperperiod_in kept)) (take (tasks_in kept) releases) →
+        Walked ts bytes count (record { stop = Complete; entries = j; counts = c })
+    ends_complete q = record { run = w.run; stops = (all_passed, none_missing w.judged q); uncounted = w.uncounted }
+
+  module _ (stands : stands_at bytes at SL ≡ true) {e : Entry} (is : e ≡ entry_in bytes at) where
     -- its entry breaks a rule
-    pub walk_broken : (number ≡ 0 → ⊥) → (i : ℕ) → Walked ts bytes count (record { number = number; entries = j; missing = i; counts = c })
-    walk_broken z i = record {
+    pub walk_broken : {number : ℕ} → Some number ≡ entry_breaks kept releases free e →
+        Walked ts bytes count (record { stop = Broken number; entries = j; counts = c })
+    walk_broken {number} q = record {
       run = w.run;
-      ends = λ y. absurd (z y);
-      job_missing = λ y _. absurd (z y);
-      no_fault = λ y _. absurd (z y);
-      counted = λ y _. absurd (z y);
+      stops = record {
+        one_more = rw (← w.judged.here.place) stands;
+        of_an_entry = its_number w.judged e is number q;
+        broken = entry_refused w.judged e is number q;
+      };
       uncounted = w.uncounted;
-      of_an_entry = λ _. rw q (breaks_named kept releases free e (λ y. z (q ∙ y)));
-      one_more = λ _. rw (← w.judged.here.place) stands;
-      broken = λ _. entry_refused w.judged e is number q z;
     }
 
-    module _ (z : number ≡ 0) where
+    module _ (q : None ≡ entry_breaks kept releases free e) where
       -- the start keeps the rules of an entry
       keeps : StartKeepsRules ts (hyperperiod ts) w.next free e.task e.start
-      keeps = entry_keeps w.judged e is number q z
+      keeps = entry_keeps w.judged e is q
 
       -- it is of a task, which has a slot, and no sum is large
       pub entry_task : e.task < tasks_in kept
@@ -112,7 +108,7 @@ module _ {ts : Set} {bytes : List ℕ} {kept : Rows} {count : Bool} {releases : 
           let whole = stands_whole bytes at SL stands in
           record {
             next = start_job w.next e.task;
-            judged = judged_next w.judged e is number q z;
+            judged = judged_next w.judged e is q;
             run = (one_more bytes (head_length ts) SL (length bytes) j at (size SL) refl w.judged.here.place w.run
                 (omega (arith, w.judged.here.place, whole)) stands).1;
             counted = λ asked. its_count asked turn;

@@ -8,54 +8,47 @@ ghost use Rattle.rules.specs.Marks.{SL as entry-mark, size, head_length_of};
 ghost use Rattle.rules.specs.Operations.{check_timetable};
 ghost use Rattle.sets.specs.Kept.{Keeps};
 ghost use Rattle.timetables.specs.Walks as walks;
-ghost use Rattle.timetables.specs.Judged.{EntriesStand, Walked, refused_with, told_of, JudgedAs};
+ghost use Rattle.timetables.specs.Judged.{EntriesStand, Walked, told_of, JudgedAs};
 ghost use Rattle.timetables.specs.Instants.{least_of, instant_of, some_by};
 
-use framing::{FrameAnswer, TasksAnswer};
-use images::{ENTRY_SIZE, SL};
-use rules::{CheckAnswer, Entry, LARGEST, Located, NO_REFUSAL, NO_SET, SetAnswer, TaskSet};
-use sets::{FIGURES, FIRST, HYPERPERIOD, PERIODS, SLACK, TASKS, TIMES};
+use images::{ENTRY_SIZE, Kind, Mark};
+use rules::{Entry, LARGEST, Located, TaskSet};
+use sets::Kept;
 
-// The number of the first rule that a start of a task's next job breaks, 12 to 15 in that order; 0 for none. A release from the end of the cycle on
-// says that no job is left. One test sees both a start before its release, where the difference wraps, and a late one.
-fn start_breaks(h: u32, slack: u32, release: u32, free: u32, start: u32) -> u32
+// The number of the first rule that a start of a task's next job breaks, 12 to 15 in that order. A release from the end of the cycle on says that no job is
+// left. One test sees both a start before its release, where the difference wraps, and a late one.
+fn start_breaks(h: u32, slack: u32, release: u32, free: u32, start: u32) -> Option<u32>
     requires { h + slack ≤ largest_number }
     ensures { result ≡ walks.start_breaks h slack release free start }
 {
     if h <= release {
-        return 12;
+        return Some(12);
     }
     if start < free {
         if start < release {
-            return 13;
+            return Some(13);
         }
-        return 14;
+        return Some(14);
     }
-    if slack < std::num::wrapping_sub_u32(start, release) {
+    if slack < start.wrapping_sub(release) {
         if start < release {
-            return 13;
+            return Some(13);
         }
-        return 15;
+        return Some(15);
     }
-    0
+    None
 }
 
-// The number of the first rule that an entry breaks, 11 to 15; 0 for none.
-fn entry_breaks(kept: &[[u32; 16]; 6], release: &[u32; 16], free: u32, e: Entry) -> u32
+// The number of the first rule that an entry breaks, 11 to 15.
+fn entry_breaks(kept: &Kept, release: &[u32; 16], free: u32, e: Entry) -> Option<u32>
     requires { (ts : Set) × Keeps ts kept.now }
     ensures { result ≡ walks.entry_breaks kept.now release.now free e }
 {
-    if kept[FIGURES][TASKS] <= e.task {
-        return 11;
+    if kept.tasks <= e.task {
+        return Some(11);
     }
     let i = e.task as usize;
-    start_breaks(
-        kept[FIGURES][HYPERPERIOD],
-        kept[SLACK][i],
-        release[i],
-        free,
-        e.start,
-    )
+    start_breaks(kept.hyperperiod, kept.slack[i], release[i], free, e.start)
 }
 
 // An instant that no release comes to: there is no next job.
@@ -76,12 +69,10 @@ fn some_earlier(n: usize, release: &[u32; 16], start: u32) -> bool
     requires slots { length release.now ≡ 16 }
     ensures { result ≡ nat_lt (least_of (take n release.now)) start }
 {
-    let mut k: usize = 0;
-    while k < n {
-        if release[k] < start {
+    for r in &release[..n] {
+        if *r < start {
             return true;
         }
-        k += 1;
     }
     false
 }
@@ -108,12 +99,10 @@ pub fn lower_waits(release: &[u32; 16], i: usize, start: u32) -> bool
     requires slots { length release.now ≡ 16 }
     ensures { result ≡ some_by start (take i release.now) }
 {
-    let mut k: usize = 0;
-    while k < i {
-        if release[k] <= start {
+    for r in &release[..i] {
+        if *r <= start {
             return true;
         }
-        k += 1;
     }
     false
 }
@@ -126,35 +115,30 @@ pub struct Counts {
     pub each: [usize; 16],
 }
 
-// Where a walk over the entries stops: the number of the rule that the entry there breaks, 0 where no whole SL record stands; how many entries are
-// before it; the first task with a job missing; and, where they were asked for, the irregularities so far.
+// What stops a walk over the entries: one that breaks a rule, with the rule's number; or, where no whole SL record stands, the first task with a job missing,
+// or nothing.
+#[derive(Clone, Copy)]
+pub enum Stop {
+    Broken(u32),
+    Missing(usize),
+    Complete,
+}
+
+// A walk over the entries: what stops it, how many entries are before it and, where they were asked for, their irregularities.
 #[derive(Clone, Copy)]
 pub struct Walk {
-    pub number: u32,
+    pub stop: Stop,
     pub entries: usize,
-    pub missing: usize,
     pub counts: Counts,
 }
 
-// A walk by its parts.
-fn walked(number: u32, entries: usize, missing: usize, counts: Counts) -> Walk
-    ensures { result ≡ record { number = number; entries = entries; missing = missing; counts = counts } }
-{
-    Walk {
-        number,
-        entries,
-        missing,
-        counts,
-    }
-}
-
 // The walk over the entries of a timetable.
-fn walk_entries(image: &[u8], kept: &[[u32; 16]; 6], count: bool) -> Walk
+fn walk_entries(image: &[u8], kept: &Kept, count: bool) -> Walk
     requires { (ts : Set) × EntriesStand ts image.now kept.now 0 }
     ensures { (ts : Set) → EntriesStand ts image.now kept.now 0 → Walked ts image.now count result }
 {
-    let n = kept[FIGURES][TASKS] as usize;
-    let mut release = kept[FIRST];
+    let n = kept.tasks as usize;
+    let mut release = kept.first;
     let mut free: u32 = 0;
     let mut counts = Counts {
         idles: 0,
@@ -162,16 +146,27 @@ fn walk_entries(image: &[u8], kept: &[[u32; 16]; 6], count: bool) -> Walk
         each: [0usize; 16],
     };
     let mut at = images::head_length(n);
-    let mut j: usize = 0;
+    let mut entries: usize = 0;
     'entries: loop {
-        if !images::stands(image, at, SL) {
-            let lowest = sets::missing(n, kept[FIGURES][HYPERPERIOD], &release);
-            break 'entries walked(0, j, lowest, counts);
+        if !images::stands(image, at, Mark::SL) {
+            let stop = match sets::missing(n, kept.hyperperiod, &release) {
+                Some(task) => Stop::Missing(task),
+                None => Stop::Complete,
+            };
+            break 'entries Walk {
+                stop,
+                entries,
+                counts,
+            };
         }
-        let e = images::entry_at(image, at);
-        let number = entry_breaks(kept, &release, free, e);
-        if number != 0 {
-            break 'entries walked(number, j, n, counts);
+        let e = images::read::<Entry>(image, at);
+        if let Some(number) = entry_breaks(kept, &release, free, e) {
+            let stop = Stop::Broken(number);
+            break 'entries Walk {
+                stop,
+                entries,
+                counts,
+            };
         }
         let i = e.task as usize;
         if count {
@@ -183,111 +178,68 @@ fn walk_entries(image: &[u8], kept: &[[u32; 16]; 6], count: bool) -> Walk
                 counts.each[i] += 1;
             }
         }
-        release[i] += kept[PERIODS][i];
-        free = e.start + kept[TIMES][i];
+        release[i] += kept.periods[i];
+        free = e.start + kept.times[i];
         at += ENTRY_SIZE;
-        j += 1;
+        entries += 1;
     }
 }
 
-// What a timetable image comes to: a refusal, with number 0 for none; and the set, how many entries there are, and what was counted of them where that
-// was asked for.
+// A timetable image that is not refused: the set, how many entries there are, and what was counted of them where that was asked for.
 #[derive(Clone, Copy)]
 pub struct Timetable {
-    pub refusal: Located,
     pub set: TaskSet,
     pub listed: usize,
     pub counts: Counts,
 }
 
-// What a refusal hands back: nothing with it.
-fn refused(refusal: Located) -> Timetable
-    ensures { result ≡ refused_with refusal }
-{
-    let set = NO_SET;
-    let counts = Counts {
-        idles: 0,
-        inversions: 0,
-        each: [0usize; 16],
-    };
-    Timetable {
-        refusal,
-        set,
-        listed: 0,
-        counts,
-    }
-}
-
-// What a walk over all entries of a framed image comes to: the rule that it broke, a job that is missing, or nothing.
-fn told(set: TaskSet, w: Walk) -> Timetable
+// What a walk over all entries of a framed image comes to: the rule that it broke, a job that is missing, or the timetable.
+fn told(set: TaskSet, w: Walk) -> Result<Timetable, Located>
     requires { head_length_of set.n + w.entries * size entry-mark < 18446744073709551616 }
     ensures { result ≡ told_of set w }
 {
     let n = set.n as usize;
-    if w.number != 0 {
-        return refused(Located {
-            number: w.number,
+    match w.stop {
+        Stop::Broken(number) => Err(Located {
+            number,
             place: images::head_count(n) + w.entries,
             offset: images::head_length(n) + w.entries * ENTRY_SIZE,
-        });
-    }
-    if w.missing < n {
-        return refused(Located {
+        }),
+        Stop::Missing(task) => Err(Located {
             number: 16,
-            place: w.missing,
+            place: task,
             offset: 0,
-        });
-    }
-    let counts = w.counts;
-    let refusal = NO_REFUSAL;
-    Timetable {
-        refusal,
-        set,
-        listed: w.entries,
-        counts,
+        }),
+        Stop::Complete => Ok(Timetable {
+            set,
+            listed: w.entries,
+            counts: w.counts,
+        }),
     }
 }
 
 // A timetable image judged: TS and the tasks framed, the set, the entries in one walk, and framing gone on with from where that stops. What framing
 // refuses comes before what the set or an entry is refused for.
-pub fn judge(image: &[u8], count: bool, kept: &mut [[u32; 16]; 6]) -> Timetable
+pub fn judge(image: &[u8], count: bool, kept: &mut Kept) -> Result<Timetable, Located>
     ensures { JudgedAs image.now count result kept.new }
 {
-    match framing::frame_tasks(image, 1) {
-        TasksAnswer::Refused(refusal) => return refused(refusal),
-        TasksAnswer::Framed(p) => {
-            let set = framing::read_set(image, p.tasks);
-            match sets::judge_set(set, kept) {
-                SetAnswer::Refused(fault) => match framing::frame_from(image, 1, true, p) {
-                    FrameAnswer::Refused(refusal) => return refused(refusal),
-                    FrameAnswer::Framed(_) => return refused(framing::set_refused(fault)),
-                },
-                SetAnswer::Good(_) => {
-                    let w = walk_entries(image, kept, count);
-                    match framing::frame_from(
-                        image,
-                        1,
-                        true,
-                        framing::past(p, SL, w.entries, w.entries, 0),
-                    ) {
-                        FrameAnswer::Refused(refusal) => return refused(refusal),
-                        FrameAnswer::Framed(_) => return told(set, w),
-                    }
-                }
-            }
-        }
+    let p = framing::frame_tasks(image, Kind::Timetable)?;
+    let set = framing::read_set(image, p.tasks);
+    if let Err(fault) = sets::judge_set(set, kept) {
+        framing::frame_from(image, Kind::Timetable, true, p)?;
+        return Err(framing::set_refused(fault));
     }
+    let w = walk_entries(image, kept, count);
+    let behind = framing::past(p, Mark::SL, w.entries, w.entries, 0);
+    framing::frame_from(image, Kind::Timetable, true, behind)?;
+    told(set, w)
 }
 
 // Plain checking of a timetable image.
-pub fn check(image: &[u8]) -> CheckAnswer
+pub fn check(image: &[u8]) -> Result<(), Located>
     ensures { result ≡ check_timetable image.now }
 {
-    let mut kept = [[0u32; 16]; 6];
-    let t = judge(image, false, &mut kept);
-    if t.refusal.number != 0 {
-        let r = t.refusal;
-        return CheckAnswer::Refused(r);
-    }
-    CheckAnswer::Accepted
+    let mut kept = Kept::unfilled([0u32; 16]);
+    judge(image, false, &mut kept)?;
+    Ok(())
 }

@@ -91,13 +91,6 @@ module _ (kind : ℕ) (ts : Set) (rs : List Record) (number : ℕ) where
   front_length : length (image (head_records kind ts) ++ image rs) ≡ end_offset
   front_length = length-append (image (head_records kind ts)) (image rs) ∙ omega (arith, set_length kind ts)
 
-  -- and how long it is
-  pub whole_length : length whole ≡ end_offset + size EN
-  whole_length =
-      let front = image (head_records kind ts) ++ image rs in
-      let end = written (record_of EN (number ∷ [])) in
-      ap length pieces ∙ length-append front end ∙ omega (arith, front_length, written_length EN (number ∷ []))
-
   -- the three pieces put one behind the other are the image at the front of an output, and the rest is as it was
   pub image_put : (out : List ℕ) → length whole ≤ length out →
       record_put (put_at (put_at out 0 (image (head_records kind ts))) (head_length_of (length ts.tasks)) (image rs)) end_offset (record_of EN (number ∷ []))

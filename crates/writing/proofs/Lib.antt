@@ -1,4 +1,3 @@
 pub mod Puts
-pub mod Records
 pub mod ImagePut
 pub mod Promises

@@ -1,14 +1,24 @@
 -- Bytes put at a place of an output: what a put leaves, and what several leave. Assumes nothing.
 use mathlib.Core.Path.{◌≡◌, refl, sym, ◌∙◌}
 use mathlib.Core.List.{List, [], ◌∷◌, ◌++◌, append_assoc}
-use Prim.Native.Nat.{ℕ, suc, ◌+◌, ◌≤◌, ◌<◌}
-use native.Mathlib.Nat.{add-zero, add_assoc, ne_of_lt}
+use Prim.Native.Nat.{ℕ, suc, ◌+◌, ◌-◌, ◌≤◌, ◌<◌}
+use native.Mathlib.Nat.{add-zero, ne_of_lt}
+use native.Mathlib.Numerals.{add-one}
 use native.Mathlib.Omega.{arith}
+use borrow.Rule.Slice.PartMut.{put_mid}
 use borrow.Author.Tests.{le-leb, lt-leb}
-use lib.ListN.{length, set, take, drop, length-append, length-drop, take-append-drop}
-use lib.Seq.{length-take-le, take_at, drop_at, take-append-le, take-take, drop-drop, set_comm, sets, length-sets, sets-eq}
+use lib.ListN.{length, set, take, drop, length-append, take-append-drop}
+use lib.Seq.{drop-drop, set_comm, sets, length-sets, sets-eq}
 use Rattle.fields.proofs.Places.{by_whole}
-use Rattle.writing.specs.Writing.{put_at}
+use Rattle.fields.specs.Body.{body}
+use Rattle.fields.proofs.Bodies.{body_length}
+use Rattle.rules.specs.Marks.{Mark, row, size}
+use Rattle.rules.specs.Image.{record_of}
+use Rattle.rules.proofs.Framed.{written_length}
+use Rattle.images.specs.declared.Mark.{Mark as CodeMark}
+use Rattle.images.specs.declared.Row.{Row}
+use Rattle.images.specs.Table.{mark_of, code_row}
+use Rattle.writing.specs.Writing.{put_at, record_put}
 
 -- bytes that fit stand at the place, and all others are as they were
 pub put_fits : (old : List ℕ) (at : ℕ) (xs : List ℕ) → at + length xs ≤ length old
@@ -36,43 +46,20 @@ put_length old at xs =
     (λ h. rw (put_sets old at xs h) (length-sets old at xs))
     (λ h. rw (put_cut old at xs h))
 
--- what stands before the place is as it was
-pub put_before : (old : List ℕ) (at : ℕ) (xs : List ℕ) (k : ℕ) → k ≤ at → take k (put_at old at xs) ≡ take k old
-put_before old at xs k l =
-    by_whole (length xs) old at
-    (λ h.
-    let e : length (take at old) ≡ at = length-take-le at old (omega arith) in
-    rw (put_fits old at xs h) (take-append-le k (take at old) (xs ++ drop (at + length xs) old) (omega arith) ∙ take-take k at old l))
-    (λ h. rw (put_cut old at xs h))
-
--- bytes put where a second part begins take the place of its first bytes
-put_between : (p q : List ℕ) (at : ℕ) (xs : List ℕ) → length p ≡ at → length xs ≤ length q
-    → put_at (p ++ q) at xs ≡ p ++ (xs ++ drop (length xs) q)
-put_between p q at xs e h =
-    put_fits (p ++ q) at xs (simp (length-append, e) (omega arith))
-    ∙ rw (take_at p q at e, ← drop-drop (length xs) at (p ++ q), drop_at p q at e)
-
--- bytes put over a part of their length take its place
-pub put_inside : (a b c xs : List ℕ) → length b ≡ length xs → put_at (a ++ (b ++ c)) (length a) xs ≡ a ++ (xs ++ c)
-put_inside a b c xs e =
-    put_between a (b ++ c) (length a) xs refl (simp (length-append, e) (omega arith)) ∙ rw (drop_at b c (length xs) e)
-
--- bytes put right after a front make it longer
-pub put_front : (p old : List ℕ) (at : ℕ) (xs : List ℕ) → length p ≡ at → at + length xs ≤ length old
-    → put_at (p ++ drop at old) at xs ≡ (p ++ xs) ++ drop (at + length xs) old
-put_front p old at xs e h =
-    put_between p (drop at old) at xs e (simp length-drop (omega arith))
-    ∙ rw (drop-drop (length xs) at old) (sym (append_assoc p xs (drop (at + length xs) old)))
+-- a run of stores right after a run of stores is one run
+sets_append : (xs ys l : List ℕ) (i : ℕ) → sets l i (xs ++ ys) ≡ sets (sets l i xs) (i + length xs) ys
+sets_append [] ys l i = rw (add-zero i)
+sets_append (x ∷ xs) ys l i =
+    let e : suc i + length xs ≡ i + length (x ∷ xs) = omega arith in sets_append xs ys (set l i x) (suc i) ∙ rw e
 
 -- bytes put right after bytes are one put of both
 pub put_next : (old : List ℕ) (at : ℕ) (xs ys : List ℕ) → at + length (xs ++ ys) ≤ length old
     → put_at (put_at old at xs) (at + length xs) ys ≡ put_at old at (xs ++ ys)
 put_next old at xs ys h =
-    let n : length (xs ++ ys) ≡ length xs + length ys = length-append xs ys in
-    let front : length (take at old) ≡ at = length-take-le at old (omega arith) in
-    rw (put_fits old at xs (omega arith), ← append_assoc (take at old) xs (drop (at + length xs) old))
-    (put_front (take at old ++ xs) old (at + length xs) ys (simp (length-append, front)) (omega arith)
-    ∙ sym (put_fits old at (xs ++ ys) h ∙ simp (append_assoc, n, add_assoc)))
+    let n = length-append xs ys in
+    put_sets (put_at old at xs) (at + length xs) ys (omega (arith, n, put_length old at xs))
+    ∙ rw (put_sets old at xs (omega (arith, n))) (sym (sets_append xs ys old at))
+    ∙ sym (put_sets old at (xs ++ ys) h)
 
 -- a store before a run of stores may come after it
 set_sets : (ys l : List ℕ) (i j x : ℕ) → i < j → set (sets l j ys) i x ≡ sets (set l i x) j ys
@@ -96,3 +83,27 @@ put_apart old at xs place ys l =
     ∙ sets_apart xs ys old at place l
     ∙ sym (put_sets (sets old place ys) at xs (rw (length-sets old place ys) (omega arith)))))
     (λ h. rw (put_cut old place ys h) (put_cut (put_at old at xs) place ys (rw (put_length old at xs) h)))
+
+-- the row of a mark that is a record's has the record's size
+pub row_size : (r : Row) (k m : CodeMark) → r ≡ code_row (mark_of k) → k ≡ m → r.size ≡ size (mark_of m)
+row_size r k m read is = rw (read, is)
+
+-- a record at a place: its mark, and its body in the part behind that
+module _ (m : Mark) (vs old : List ℕ) (at : ℕ) where
+  abbrev here : List ℕ
+  here = body (row m).widths vs
+
+  -- where it fits
+  pub record_fits : at + size m ≤ length old → (k : ℕ) → k ≡ size m - 2 →
+      put_mid (at + 2) k (set (set old at (row m).byte₁) (at + 1) (row m).byte₂) here ≡ record_put old at (record_of m vs)
+  record_fits h k e =
+      let mark = (row m).byte₁ ∷ (row m).byte₂ ∷ [] in
+      let long : length here ≡ size m - 2 = omega (arith, body_length (row m).widths vs) in
+      let marked : set (set old at (row m).byte₁) (at + 1) (row m).byte₂ ≡ put_at old at mark = rw add-one (sym (put_sets old at mark (omega arith))) in
+      let behind = put_at old at mark in
+      rw (marked, e, ← long, drop-drop (length here) (at + 2) behind) (sym (put_fits behind (at + 2) here (omega (arith, long, put_length old at mark))))
+      ∙ put_next old at mark here (omega (arith, long))
+
+  -- where it does not
+  pub record_cut : length old < at + size m → old ≡ record_put old at (record_of m vs)
+  record_cut h = sym (put_cut old at _ (omega (arith, written_length m vs)))

@@ -1,5 +1,5 @@
 -- `decision::without_lowest` meets its contract: the number before has all bits but the lowest in common. Assumes nothing.
-use native.Mathlib.Omega.{arith}
+use Rattle.std.proofs.Common.{arith}
 use Rattle.decision.proofs.Masks.{lowest_cleared}
 use Rattle.decision.proofs.without_lowest.Goals as goal
 

@@ -5,4 +5,4 @@ use Rattle.dispatcher.proofs.store_start.Goals as goal
 pub returns : goal.returns
 returns c =
     let made = start_made c.args.numbers.now c.args.f c.requires.long c.requires.slot in
-    record { state = made.0; long = made.1 }
+    record { state = made.is; long = made.long }

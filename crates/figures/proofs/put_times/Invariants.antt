@@ -1,10 +1,6 @@
 -- `figures::put_times` meets its contract. Assumes nothing.
-use Prim.Native.Nat.{◌-◌}
 use Rattle.figures.proofs.Putting.{PutTo}
 use Rattle.figures.proofs.put_times.Given as goal
 
 abbrev pub invariant-loop-i : goal.invariant-loop-i
 invariant-loop-i l = PutTo l.kept l.t l.initial.out l.i l.out
-
-abbrev pub decreases-loop-i : goal.decreases-loop-i
-decreases-loop-i l = l.n - l.i

@@ -1,6 +1,6 @@
 -- `hervantyu::hv_check_tables` meets its contract: it tells what checking answers. Assumes nothing.
-use Rattle.hervantyu.proofs.ToldAnswers.{check_told}
+use Rattle.std.proofs.Common.{[]}
 use Rattle.hervantyu.proofs.hv_check_tables.Goals as goal
 
 pub returns : goal.returns
-returns c = check_told c.check.ensures c.told_check.ensures
+returns c = rw c.check.ensures at (c.told.ensures (λ _. []))

@@ -1,7 +1,6 @@
 -- `hervantyu::hv_derive` meets its contract: it tells what deriving answers, and the output is the rule book's. Assumes nothing.
-use Rattle.hervantyu.proofs.ToldAnswers.{make_told}
 use Rattle.hervantyu.proofs.hv_derive.Goals as goal
 
 pub returns : goal.returns
 returns c =
-    record { told = make_told c.derive.ensures.answer c.told_make.ensures; its_output = c.derive.ensures.output }
+    record { told = rw c.derive.ensures.answer at c.told_make.ensures; its_output = c.derive.ensures.output }

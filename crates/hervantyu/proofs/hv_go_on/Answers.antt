@@ -3,4 +3,4 @@ use Rattle.hervantyu.proofs.ToldAnswers.{turn_told}
 use Rattle.hervantyu.proofs.hv_go_on.Goals as goal
 
 pub returns : goal.returns
-returns c = turn_told c.go_on_numbers-answer.ensures c.told_start.ensures
+returns c = turn_told c.go_on_numbers.ensures c.told_start.ensures

@@ -2,7 +2,6 @@
 use Rattle.std.proofs.Common.{◌≡◌, ◌∙◌, ◌<◌, ◌+◌, ℕ, suc, List, ◌++◌, length, take, drop, arith, ap, refl, get_or, add-one, drop-cons, append_assoc}
 use lib.ListN.{set}
 use lib.Seq.{set_at, take-suc, length-take-le}
-use mathlib.Core.List.{[], ◌∷◌}
 use Rattle.intake.proofs.copy.Goals as goal
 
 -- the byte at i is put behind those before it

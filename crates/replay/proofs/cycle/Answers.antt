@@ -1,20 +1,17 @@
 -- `replay::cycle` meets its contract: a run of as many starts as the cycle has jobs, from where it begins. Assumes nothing.
-use Rattle.fields.specs.Number.{Bytes}
-use Rattle.fields.proofs.Laws.{bytes_by_index}
-use Rattle.replay.proofs.Cycles.{all_kept, cycle_can}
+use Rattle.std.proofs.Common.{ℕ, subst}
+use Rattle.replay.specs.Runs.{Ran, run_from, cycle_start, cycle_front}
+use Rattle.replay.proofs.Cycles.{image_bytes, all_kept, cycle_can}
 use Rattle.replay.proofs.cycle.Goals as goal
 
 pub starts-requires : goal.starts-requires
 starts-requires c =
-    let bytes : Bytes c.args.image.now =
-    bytes_by_index c.args.image.now (λ i. (c.type_inv.image i).fits) in
-    let given = c.requires in
-    (given.0, cycle_can bytes given.1)
+    let (ts, can) = c.requires in
+    (ts, cycle_can (image_bytes _ c.type_inv.image) can)
 
 pub returns : goal.returns
-returns c =
-    let bytes : Bytes c.args.image.now =
-    bytes_by_index c.args.image.now (λ i. (c.type_inv.image i).fits) in
-    λ ts can.
-    let is = bytes in
-    rw (← all_kept is can) (c.starts.ensures ts (cycle_can is can))
+returns c = λ ts can.
+    let bytes = image_bytes _ c.type_inv.image in
+    let a = c.args in
+    subst (λ (n : ℕ). Ran (run_from ts a.image.now (cycle_start a.kept.now a.first) (cycle_front a.first) n) a.out.now c.starts.result c.starts.new.out)
+    (all_kept bytes can) (c.starts.ensures ts (cycle_can bytes can))

@@ -4,7 +4,7 @@ use Rattle.replay.proofs.Running.{puts_entry, puts_none}
 use Rattle.replay.proofs.put_start.Goals as goal
 
 pub returns-then-out-place : goal.returns-then-out-place
-returns-then-out-place c = puts_none _ refl refl c.if-out-place.true
+returns-then-out-place c = puts_none _ _ _ c.if-out-place.true
 
 pub returns : goal.returns
-returns c = puts_entry _ c.put_entry.ensures refl
+returns c = puts_entry _ c.put.ensures refl

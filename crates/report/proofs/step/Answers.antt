@@ -18,7 +18,7 @@ pub go_on-requires-clause-few : goal.go_on-requires-clause-few
 go_on-requires-clause-few g c =
     not_last c.requires.stands c.in-GoesOn.told.used (goes_so c.turn.ensures c.requires.room c.in-GoesOn.is).goes
 
-pub returns-in-GoesOn : goal.returns-in-GoesOn
-returns-in-GoesOn g c =
+pub returns-in_ok-next-in-GoesOn : goal.returns-in_ok-next-in-GoesOn
+returns-in_ok-next-in-GoesOn g c =
     let known = goes_so c.turn.ensures c.requires.room c.in-GoesOn.is in
-    image_drives c.requires.stands c.in-GoesOn.told.used known.goes known.turned c.go_on.result c.go_on.ensures
+    image_drives c.requires.stands c.in-GoesOn.told.used known.goes known.turned c.in_ok-next-in-GoesOn.ensures

@@ -1,29 +1,33 @@
--- `reporting::put_figures` meets its contract. The loop's invariant: the figures passed are put. Assumes nothing.
-use borrow.Author.Rules.{rules}
-use lib.IntN.{pos}
-use lib.ListN.{get_or}
+-- A figure more is put, and at the end all of them.
+use Rattle.std.proofs.Common.{arith, rules, ap, length, get_or, pos}
+use lib.Seq.{take_all}
 use mir.Syntax.{w64}
 use mir.Val.{SFits}
 use mir.Facts.{to_z-of_z}
-use Rattle.reporting.proofs.FigureLines.{figures_none, same_room, line_fits, figures_more, figures_all}
+use Rattle.text.proofs.TextPuts.{none_put, page_front}
+use Rattle.reporting.proofs.FigureLines.{line_fits, figures_more}
 use Rattle.reporting.proofs.put_figures.Goals as goal
 
-pub loop-i-init : goal.loop-i-init
-loop-i-init c = figures_none _ _
+pub loop-z-init : goal.loop-z-init
+loop-z-init c = record { short = omega arith; puts = none_put _ (omega arith) }
 
-pub put_signed-at-requires : goal.put_signed-at-requires
-put_signed-at-requires c =
-    let fits : SFits w64 (get_or c.args.figures.now c.loop-i.i (pos 0)) = search rules in
-    rw (to_z-of_z fits) (line_fits c.loop-i.invariant c.requires c.loop-i-test.true fits)
+pub signed-requires : goal.signed-requires
+signed-requires c =
+    let fits : SFits w64 (get_or c.args.figures.now c.loop-z.z-index (pos 0)) = search rules in
+    let opened = c.new-page.ensures in
+    let room = ap length opened.kept in
+    rw (to_z-of_z fits) (line_fits c.loop-z.invariant (omega arith) c.loop-z-test.true fits)
 
-pub loop-i-preserved : goal.loop-i-preserved
-loop-i-preserved c =
-    let fits : SFits w64 (get_or c.args.figures.now c.loop-i.i (pos 0)) = search rules in
-    figures_more c.loop-i.invariant c.requires c.loop-i-test.true fits
-    (rw (to_z-of_z fits) at c.put_signed-at.ensures)
-
-pub shape_of-out : goal.shape_of-out
-shape_of-out c = same_room c.loop-i.invariant c.requires
+pub loop-z-preserved : goal.loop-z-preserved
+loop-z-preserved c =
+    let fits : SFits w64 (get_or c.args.figures.now c.loop-z.z-index (pos 0)) = search rules in
+    let opened = c.new-page.ensures in
+    let room = ap length opened.kept in
+    figures_more c.loop-z.invariant (omega arith) c.loop-z-test.true fits (rw (to_z-of_z fits) at c.signed.ensures)
 
 pub returns : goal.returns
-returns c = figures_all c.loop-i.invariant c.requires c.loop-i-test.false
+returns c =
+    let all = take_all c.loop-z.z-index c.args.figures.now (omega arith) in
+    let lines = c.loop-z.invariant in
+    let front = page_front c.new-page.ensures (omega (arith, rw all at lines.short)) (rw all at lines.puts) in
+    search rules

@@ -1,11 +1,6 @@
--- `reporting::put_figures` meets its contract. The loop's invariant: the figures passed are put. Assumes nothing.
-use Prim.Native.Nat.{◌-◌}
-use lib.ListN.{length}
+-- The figures passed are put.
 use Rattle.reporting.proofs.FigureLines.{FiguresPut}
 use Rattle.reporting.proofs.put_figures.Given as goal
 
-abbrev pub invariant-loop-i : goal.invariant-loop-i
-invariant-loop-i l = FiguresPut l.figures l.initial.out l.i l.at l.out
-
-abbrev pub decreases-loop-i : goal.decreases-loop-i
-decreases-loop-i l = length l.figures - l.i
+abbrev pub invariant-loop-z : goal.invariant-loop-z
+invariant-loop-z l = FiguresPut l.figures l.initial.page l.z-index l.page

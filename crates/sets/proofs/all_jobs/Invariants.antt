@@ -5,6 +5,3 @@ use Rattle.sets.proofs.all_jobs.Given as goal
 
 abbrev pub invariant-loop-i : goal.invariant-loop-i
 invariant-loop-i l = JobsFrom l.h (set_from l.n l.numbers l.at).tasks l.n l.i l.sum l.after l.many
-
-abbrev pub decreases-loop-i : goal.decreases-loop-i
-decreases-loop-i l = l.i

@@ -6,6 +6,7 @@ use Rattle.rules.specs.Tasks.{IsLeastMultiple}
 use Rattle.rules.proofs.Hyperperiod.{have_multiple, multiple_positive}
 use Rattle.sets.proofs.Multiples.{capped_within, capped_above, multiple_told, product_fits, by_remainder, by_divisor}
 use Rattle.sets.proofs.common_multiple.Goals as goal
+use Rattle.sets.proofs.common_multiple.Goals.{After-common_divisor}
 
 pub returns-then-t-gt65535 : goal.returns-then-t-gt65535
 returns-then-t-gt65535 c =
@@ -15,30 +16,20 @@ returns-then-t-gt65535 c =
     record { multiple = m.0; is = m.1; told = capped_above m.0 (omega arith) }
 
 pub returns-then-r-eq0 : goal.returns-then-r-eq0
-returns-then-r-eq0 c =
-    let a = c.args in
-    multiple_told (dvd_of_mod-eq-zero a.t c.if-r-eq0.true) (omega arith)
+returns-then-r-eq0 c = multiple_told (dvd_of_mod-eq-zero c.args.t c.if-r-eq0.true) (omega arith)
 
 pub nonzero_div-m : goal.nonzero_div-m
 nonzero_div-m c = pos_of_dvd_of_pos c.common_divisor.ensures.left (omega arith)
 
 pub overflow_mul-m : goal.overflow_mul-m
-overflow_mul-m c =
-    let a = c.args in
-    record { fits = product_fits a.t c.common_divisor.result a.h (omega arith) (omega arith) }
+overflow_mul-m c = record { fits = product_fits c.args.t c.common_divisor.result c.args.h (omega arith) (omega arith) }
+
+-- the product is the least common multiple
+multiple : (c : After-common_divisor) → IsLeastMultiple c.args.t c.args.h (c.args.t / c.common_divisor.result * c.args.h)
+multiple c = by_divisor c.args.t c.args.h c.common_divisor.result (omega arith) (omega arith) (by_remainder c.common_divisor.ensures)
 
 pub returns-then-m-gt65535 : goal.returns-then-m-gt65535
-returns-then-m-gt65535 c =
-    let multiple : let a = c.args in
-    IsLeastMultiple a.t a.h (a.t / c.common_divisor.result * a.h) =
-    let a = c.args in
-    by_divisor a.t a.h c.common_divisor.result (omega arith) (omega arith) (by_remainder c.common_divisor.ensures) in
-    record { multiple = _; is = multiple; told = capped_above _ c.if-m-gt65535.true }
+returns-then-m-gt65535 c = record { multiple = _; is = multiple (goal.at.returns-then-m-gt65535 c).After-common_divisor; told = capped_above _ c.if-m-gt65535.true }
 
 pub returns : goal.returns
-returns c =
-    let multiple : let a = c.args in
-    IsLeastMultiple a.t a.h (a.t / c.common_divisor.result * a.h) =
-    let a = c.args in
-    by_divisor a.t a.h c.common_divisor.result (omega arith) (omega arith) (by_remainder c.common_divisor.ensures) in
-    record { multiple = _; is = multiple; told = capped_within _ (omega arith) }
+returns c = record { multiple = _; is = multiple (goal.at.returns c).After-common_divisor; told = capped_within _ c.if-m-gt65535.false }

@@ -1,18 +1,16 @@
 -- `sets::judge_set` meets its contract: its stored tasks are judged, and the set that they are is the set. Assumes nothing.
-use mathlib.Core.Path.{◌≡◌, refl, ◌∙◌, ap}
+use mathlib.Core.Path.{◌≡◌, ◌∙◌, ap}
 use mathlib.Core.List.{List}
 use Prim.Native.Nat.{ℕ}
 use lib.ListN.{length, replicate, length-replicate}
-use Rattle.rules.specs.Dispatcher.{zeros}
 use Rattle.rules.proofs.Arrays.{slots_counted}
 use Rattle.numbers.specs.Numbers.{set_from}
 use Rattle.numbers.proofs.SetNumbers.{set_of_stored}
-use Rattle.sets.proofs.RowsKept.{alike_rows}
 use borrow.Author.Rules.{rules}
 use Rattle.sets.proofs.judge_set.Goals as goal
 
 pub judge_kept-requires : goal.judge_kept-requires
-judge_kept-requires c = record { inside = search rules; rows = alike_rows zeros refl }
+judge_kept-requires c = search rules
 
 pub returns : goal.returns
 returns c =

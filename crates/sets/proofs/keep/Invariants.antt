@@ -6,6 +6,3 @@ use Rattle.sets.proofs.keep.Given as goal
 
 abbrev pub invariant-loop-k : goal.invariant-loop-k
 invariant-loop-k l = let s = set_from l.n l.numbers l.at in JobsFrom l.h s.tasks l.n l.k l.all l.after l.many × RowsFrom l.initial.kept s l.h l.k l.kept
-
-abbrev pub decreases-loop-k : goal.decreases-loop-k
-decreases-loop-k l = l.k

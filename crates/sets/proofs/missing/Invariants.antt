@@ -1,11 +1,7 @@
--- `sets::missing` meets its contract. The invariant: the scan from slot i on gives what the whole gives. Assumes nothing.
-use mathlib.Core.Path.{◌≡◌}
-use Prim.Native.Nat.{◌-◌, ◌≤◌}
-use Rattle.sets.specs.Scans.{lowest_below}
+-- `sets::missing` meets its contract. The invariant: no release that was passed is before the end of the cycle. Assumes nothing.
+use Prim.Native.Nat.{ℕ, ◌≤◌, ◌<◌}
+use lib.ListN.{get_or}
 use Rattle.sets.proofs.missing.Given as goal
 
 abbrev pub invariant-loop-i : goal.invariant-loop-i
-invariant-loop-i l = (l.i ≤ l.n) × (lowest_below l.n 0 l.h l.release ≡ lowest_below (l.n - l.i) l.i l.h l.release)
-
-abbrev pub decreases-loop-i : goal.decreases-loop-i
-decreases-loop-i l = l.n - l.i
+invariant-loop-i l = (k : ℕ) → k < l.i → l.h ≤ get_or l.r-items k 0

@@ -5,6 +5,3 @@ use Rattle.sets.proofs.ticks.Given as goal
 
 abbrev pub invariant-loop-i : goal.invariant-loop-i
 invariant-loop-i l = CycleFrom (set_from l.n l.numbers l.at).tasks l.n l.i l.after l.h
-
-abbrev pub decreases-loop-i : goal.decreases-loop-i
-decreases-loop-i l = l.i

@@ -1,10 +1,6 @@
 -- `spare::last_deadlines` meets its contract. The invariant: the slots passed are filled. Assumes nothing.
-use Prim.Native.Nat.{◌-◌, ◌≤◌}
 use Rattle.spare.specs.Walking.{LastDeadlines}
 use Rattle.spare.proofs.last_deadlines.Given as goal
 
 abbrev pub invariant-loop-i : goal.invariant-loop-i
-invariant-loop-i l = (l.i ≤ l.n) × LastDeadlines l.kept l.i l.dues
-
-abbrev pub decreases-loop-i : goal.decreases-loop-i
-decreases-loop-i l = l.n - l.i
+invariant-loop-i l = LastDeadlines l.kept l.i l.dues

@@ -1,14 +1,8 @@
 -- `spare::previous` meets its contract. Assumes nothing.
 use native.Mathlib.Omega.{arith}
 use Prim.Native.Nat.{◌<◌}
-use Rattle.spare.proofs.Stepping.{over_stretch, over_interval, longest_inside}
+use Rattle.spare.proofs.Stepping.{over_interval, longest_inside}
 use Rattle.spare.proofs.previous.Goals as goal
-
-pub returns-then-w : goal.returns-then-w
-returns-then-w c = λ ts W. over_stretch W c.if-w.true
-
-pub take_due-due-requires : goal.take_due-due-requires
-take_due-due-requires c = let W = c.requires.walks.1 in record { a_set = (_, W.keeps); slots = W.slots }
 
 pub overflow_sub-w : goal.overflow_sub-w
 overflow_sub-w c =
@@ -20,4 +14,4 @@ pub returns : goal.returns
 returns c =
     let some : 0 < c.args.w.end =
     omega (arith, c.requires.more, c.if-w.false) in
-    λ ts W. over_interval W some c.take_due-due.ensures c.if-w.false _ _ c.latest-end.ensures c.later.ensures
+    λ ts W. over_interval W some c.take_due-due.ensures c.if-w.false _ _ c.latest-end.ensures c.max.ensures

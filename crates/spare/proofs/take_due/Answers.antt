@@ -1,46 +1,24 @@
 -- `spare::take_due` meets its contract. The invariant: the jobs of the tasks passed are taken. Assumes nothing.
-use mathlib.Core.Path.{◌≡◌, ◌∙◌, ap}
+use mathlib.Core.Path.{◌∙◌, ap}
 use Prim.Native.Nat.{max, ◌<◌}
 use native.Mathlib.Omega.{arith}
 use lib.ListN.{length}
-use Rattle.sets.specs.Kept.{tasks_in}
-use Rattle.spare.proofs.Taking.{time_short, work_small, taken_none, taken_more, taken_skip}
+use Rattle.spare.proofs.Taking.{time_short, work_small, taken_more, taken_skip}
 use Rattle.spare.proofs.take_due.Goals as goal
 use Rattle.spare.proofs.take_due.Goals.{else-dues-i, then-dues-i}
 
-pub loop-i-init : goal.loop-i-init
-loop-i-init c = (omega arith, taken_none)
-
 pub overflow_add-work : goal.overflow_add-work
 overflow_add-work c =
-    let a = c.args in
     let keeps = c.requires.a_set.1 in
     let i = c.loop-i.i in
-    omega (
-      arith,
-      c.loop-i.invariant.1.work_is,
-      work_small keeps a.dues.now a.e i (omega arith),
-      time_short keeps i (omega arith),
-      keeps.few,
-    )
-
-pub relative_deadline-requires : goal.relative_deadline-requires
-relative_deadline-requires c = record { a_set = c.requires.a_set; a_task = omega arith }
+    omega (arith, c.loop-i.invariant.work_is, work_small keeps c.args.dues.now c.args.e i (omega arith), time_short keeps i (omega arith), keeps.few)
 
 pub loop-i-preserved : goal.loop-i-preserved
 loop-i-preserved c =
-    let T = c.loop-i.invariant.1 in
+    let T = c.loop-i.invariant in
     let inside : c.loop-i.i < length c.args.dues.now = omega (arith, c.requires.a_set.1.few) in
     elim c.if-dues-i.branch [
-      | then-dues-i w ↦ (
-        omega arith,
-        taken_more T inside w.if-dues-i.true w.work-is (w.longest-is ∙ w.later-longest.ensures ∙ ap (max c.loop-i.longest) w.relative_deadline.ensures)
-            w.a_period_before.ensures w.dues-is,
-      )
-      | else-dues-i w ↦ (omega arith, rw (w.dues-is, w.work-is, w.longest-is) (taken_skip T inside w.if-dues-i.false))
+      | then-dues-i w ↦ taken_more T inside w.if-dues-i.true w.work-is (w.longest-is ∙ w.max-longest.ensures ∙ ap (max c.loop-i.longest) w.relative_deadline.ensures)
+          w.a_period_before.ensures w.dues-is
+      | else-dues-i w ↦ rw (w.dues-is, w.work-is, w.longest-is) (taken_skip T inside w.if-dues-i.false)
     ]
-
-pub returns : goal.returns
-returns c =
-    let all : c.loop-i.i ≡ tasks_in c.args.kept.now = omega arith in
-    rw all at c.loop-i.invariant.1

@@ -1,44 +1,30 @@
 -- `tables::judge_records` meets its contract: by the records' rules, then by replay and comparison. Assumes nothing.
-use Rattle.fields.specs.Number.{Bytes}
-use Rattle.fields.proofs.Laws.{bytes_by_index}
-use Rattle.tables.proofs.ImagesJudged.{can_judge, judged_by_records, has_offsets, can_compare, judged_by_replay, judged_good}
+use Rattle.replay.proofs.Cycles.{image_bytes}
+use Rattle.std.proofs.lemmas.Result.{err_from_is_err_and}
+use Rattle.tables.proofs.ImagesJudged.{refusal_judged, can_judge, judged_by_records, has_offsets, can_compare, judged_good}
 use Rattle.tables.proofs.judge_records.Goals as goal
 
-pub records_fault-fault-requires : goal.records_fault-fault-requires
-records_fault-fault-requires c =
-    can_judge (bytes_by_index c.args.image.now (λ i. (c.type_inv.image i).fits)) c.requires
+pub judge_records-requires : goal.judge_records-requires
+judge_records-requires c = can_judge (image_bytes _ c.type_inv.image) c.requires
 
-pub returns-then-fault-ne0 : goal.returns-then-fault-ne0
-returns-then-fault-ne0 c =
-    let bytes : Bytes c.args.image.now =
-    bytes_by_index c.args.image.now (λ i. (c.type_inv.image i).fits) in
-    judged_by_records bytes c.requires _ c.records_fault-fault.ensures c.if-fault-ne0.true _ c.refused.ensures
+pub returns-in_err-judge_records : goal.returns-in_err-judge_records
+returns-in_err-judge_records c =
+    let p = err_from_is_err_and c.from_residual.result c.from_residual.ensures.1 in
+    rw (p.1, p.2) (judged_by_records (image_bytes _ c.type_inv.image) c.requires _ c.in_err-judge_records.ensures)
 
 pub first_offsets-first-requires : goal.first_offsets-first-requires
-first_offsets-first-requires c =
-    let bytes : Bytes c.args.image.now =
-    bytes_by_index c.args.image.now (λ i. (c.type_inv.image i).fits) in
-    has_offsets bytes c.requires _ c.records_fault-fault.ensures c.if-fault-ne0.false
+first_offsets-first-requires c = has_offsets (image_bytes _ c.type_inv.image) c.requires c.in_ok-judge_records.ensures
 
-pub replay_fault-refusal-requires : goal.replay_fault-refusal-requires
-replay_fault-refusal-requires c =
-    let bytes : Bytes c.args.image.now =
-    bytes_by_index c.args.image.now (λ i. (c.type_inv.image i).fits) in (
-      _,
-      can_compare bytes c.requires _ c.records_fault-fault.ensures c.if-fault-ne0.false _
-          c.first_offsets-first.ensures,
-    )
+pub replay_fault-requires : goal.replay_fault-requires
+replay_fault-requires c =
+    (_, can_compare (image_bytes _ c.type_inv.image) c.requires c.in_ok-judge_records.ensures _ c.first_offsets-first.ensures)
 
-pub returns-then-refusal-ne0 : goal.returns-then-refusal-ne0
-returns-then-refusal-ne0 c =
-    let bytes : Bytes c.args.image.now =
-    bytes_by_index c.args.image.now (λ i. (c.type_inv.image i).fits) in
-    judged_by_replay bytes c.requires _ c.records_fault-fault.ensures c.if-fault-ne0.false _
-    c.first_offsets-first.ensures _ c.replay_fault-refusal.ensures c.if-refusal-ne0.true _ c.refused-then-refusal-ne0.ensures
+pub returns-in_err-replay_fault : goal.returns-in_err-replay_fault
+returns-in_err-replay_fault c =
+    let p = err_from_is_err_and c.from_residual-in_err-replay_fault.result c.from_residual-in_err-replay_fault.ensures.1 in
+    rw (p.1, p.2) (refusal_judged _ _ c.in_err-replay_fault.ensures)
 
 pub returns : goal.returns
 returns c =
-    let bytes : Bytes c.args.image.now =
-    bytes_by_index c.args.image.now (λ i. (c.type_inv.image i).fits) in
-    judged_good bytes c.requires _ c.records_fault-fault.ensures c.if-fault-ne0.false _
-    c.first_offsets-first.ensures _ c.replay_fault-refusal.ensures c.if-refusal-ne0.false
+    judged_good (image_bytes _ c.type_inv.image) c.requires c.in_ok-judge_records.ensures _ c.first_offsets-first.ensures
+    c.in_ok-replay_fault.ensures

@@ -1,9 +1,10 @@
 -- `timetables::check` meets its contract: it answers as the image was judged. Assumes nothing.
+use Rattle.std.proofs.Common.{rules}
 use Rattle.timetables.proofs.ImagesJudged.{refusal_answered, acceptance_answered}
 use Rattle.timetables.proofs.check.Goals as goal
 
-pub returns-then-t-ne0 : goal.returns-then-t-ne0
-returns-then-t-ne0 c = refusal_answered c.judge-t.ensures c.if-t-ne0.true
+pub returns-in_err-judge : goal.returns-in_err-judge
+returns-in_err-judge c = search (rules, refusal_answered)
 
 pub returns : goal.returns
-returns c = acceptance_answered c.judge-t.ensures c.if-t-ne0.false
+returns c = acceptance_answered c.in_ok-judge.ensures

@@ -1,76 +1,56 @@
 -- `timetables::judge` meets its contract: by framing, by the set or by the entries. Assumes nothing.
-use Rattle.std.proofs.Common.{sym, ap, ◌∙◌, arith}
+use Rattle.std.proofs.Common.{refl, arith}
 use Rattle.fields.proofs.Laws.{bytes_by_index}
-use Rattle.timetables.specs.Judged.{refused_with}
-use Rattle.timetables.proofs.ImagesJudged.{judged_by_tasks, behind_tasks, judged_by_framing, tasks_inside, set_stands, set_fault_place, judged_by_set}
-use Rattle.timetables.proofs.ImagesJudged.{few_entries, walk_reached, judged_told}
+use Rattle.rules.specs.Tasks.{memory_set}
+use Rattle.timetables.specs.Judged.{Walked}
+use Rattle.timetables.proofs.ImagesJudged.{SetBehind, set_stands, set_fault_place, judged_by_set, few_entries, walk_reached, judged_told}
 use Rattle.timetables.proofs.judge.Goals as goal
+use Rattle.timetables.proofs.judge.Goals.{After-read_set-set, After-walk_entries-w}
 
-pub read_set-set-requires : goal.read_set-set-requires
-read_set-set-requires c =
-    let q = behind_tasks _ c.frame_tasks.ensures _ c.in-Framed.is in
-    let inside = tasks_inside q.0 q.1 in
-    record { few = inside.0; inside = inside.1 }
+-- the set is that behind whose tasks framing has come to a place
+set_behind : (c : After-read_set-set) → SetBehind c.args.image.now c.in_ok-p.p c.read_set-set.result
+set_behind c =
+    let p = c.in_ok-p.ensures in
+    record { fits = bytes_by_index c.args.image.now (λ i. (c.type_inv.image i).fits); re = p.0; behind = p.1; is = c.read_set-set.ensures }
 
-pub frame_from-requires : goal.frame_from-requires
-frame_from-requires c = (behind_tasks _ c.frame_tasks.ensures _ c.in-Framed.is).0
+-- what the walk over the entries of a good set tells
+walked : (c : After-walk_entries-w) → SetBehind c.args.image.now c.in_ok-p.p c.read_set-set.result →
+    Walked (memory_set c.read_set-set.result) c.args.image.now c.args.count c.walk_entries-w.result
+walked c s = c.walk_entries-w.ensures _ (set_stands s (c.in_default.ensures.keeps _ refl))
 
 pub set_refused-requires : goal.set_refused-requires
-set_refused-requires c =
-    let q = behind_tasks _ c.frame_tasks.ensures _ c.in-Framed.is in
-    let bytes = bytes_by_index c.args.image.now (λ i. (c.type_inv.image i).fits) in
-    set_fault_place bytes q.0 q.1 c.read_set-set.ensures _ (sym c.in-Refused-judge_set.is ∙ c.judge_set.ensures.answer)
+set_refused-requires c = set_fault_place (set_behind (goal.at.set_refused-requires c).After-read_set-set) c.in-Err.ensures.answer
+
+pub returns-in-Err : goal.returns-in-Err
+returns-in-Err c =
+    let s = set_behind (goal.at.returns-in-Err c).After-read_set-set in
+    judged_by_set s c.in-Err.ensures.answer c.in_ok-frame_from.ensures c.set_refused.ensures
 
 pub walk_entries-w-requires : goal.walk_entries-w-requires
 walk_entries-w-requires c =
-    let q = behind_tasks _ c.frame_tasks.ensures _ c.in-Framed.is in
-    let bytes = bytes_by_index c.args.image.now (λ i. (c.type_inv.image i).fits) in
-    (_, set_stands bytes q.0 q.1 c.read_set-set.ensures (c.judge_set.ensures.keeps _ c.in-Good.is))
+    (_, set_stands (set_behind (goal.at.walk_entries-w-requires c).After-read_set-set) (c.in_default.ensures.keeps _ refl))
 
-pub past-requires : goal.past-requires
-past-requires c =
-    let q = behind_tasks _ c.frame_tasks.ensures _ c.in-Framed.is in
-    let bytes = bytes_by_index c.args.image.now (λ i. (c.type_inv.image i).fits) in
-    let walked = c.walk_entries-w.ensures _ (set_stands bytes q.0 q.1 c.read_set-set.ensures (c.judge_set.ensures.keeps _ c.in-Good.is)) in
-    let few = few_entries bytes q.0 q.1 c.read_set-set.ensures walked in
-    record { index = omega (arith, few.0); offset = omega (arith, few.1) }
+pub past-behind-requires : goal.past-behind-requires
+past-behind-requires c =
+    let a = goal.at.past-behind-requires c in
+    let s = set_behind a.After-read_set-set in
+    let few = few_entries s (walked a.After-walk_entries-w s) in
+    record { index = omega arith; offset = omega arith }
 
-pub frame_from-requires-in-Good : goal.frame_from-requires-in-Good
-frame_from-requires-in-Good c =
-    let q = behind_tasks _ c.frame_tasks.ensures _ c.in-Framed.is in
-    let bytes = bytes_by_index c.args.image.now (λ i. (c.type_inv.image i).fits) in
-    let walked = c.walk_entries-w.ensures _ (set_stands bytes q.0 q.1 c.read_set-set.ensures (c.judge_set.ensures.keeps _ c.in-Good.is)) in
-    rw c.past.ensures (walk_reached bytes q.0 q.1 c.read_set-set.ensures walked)
+pub frame_from-requires-2 : goal.frame_from-requires-2
+frame_from-requires-2 c =
+    let a = goal.at.frame_from-requires-2 c in
+    let s = set_behind a.After-read_set-set in
+    rw c.past-behind.ensures (walk_reached s (walked a.After-walk_entries-w s))
 
 pub told-requires : goal.told-requires
 told-requires c =
-    let q = behind_tasks _ c.frame_tasks.ensures _ c.in-Framed.is in
-    let bytes = bytes_by_index c.args.image.now (λ i. (c.type_inv.image i).fits) in
-    let walked = c.walk_entries-w.ensures _ (set_stands bytes q.0 q.1 c.read_set-set.ensures (c.judge_set.ensures.keeps _ c.in-Good.is)) in
-    let few = few_entries bytes q.0 q.1 c.read_set-set.ensures walked in
-    omega (arith, few.1, q.1.offset)
+    let a = goal.at.told-requires c in
+    let s = set_behind a.After-read_set-set in
+    omega (arith, few_entries s (walked a.After-walk_entries-w s))
 
-pub returns-in-Refused : goal.returns-in-Refused
-returns-in-Refused c = judged_by_tasks _ c.frame_tasks.ensures _ c.in-Refused.is c.refused.ensures
-
-pub returns-in-Refused-frame_from : goal.returns-in-Refused-frame_from
-returns-in-Refused-frame_from c = judged_by_framing _ c.frame_from.ensures _ c.in-Refused-frame_from.is c.refused-in-Refused-frame_from.ensures
-
-pub returns-in-Framed-frame_from : goal.returns-in-Framed-frame_from
-returns-in-Framed-frame_from c =
-    let q = behind_tasks _ c.frame_tasks.ensures _ c.in-Framed.is in
-    let bytes = bytes_by_index c.args.image.now (λ i. (c.type_inv.image i).fits) in
-    judged_by_set bytes q.0 q.1 c.read_set-set.ensures _
-    (sym c.in-Refused-judge_set.is ∙ c.judge_set.ensures.answer) _ _ c.frame_from.ensures c.in-Framed-frame_from.is
-    (c.refused-in-Framed-frame_from.ensures ∙ ap refused_with c.set_refused.ensures)
-
-pub returns-in-Refused-frame_from-2 : goal.returns-in-Refused-frame_from-2
-returns-in-Refused-frame_from-2 c = judged_by_framing _ c.frame_from-in-Good.ensures _ c.in-Refused-frame_from-2.is c.refused-in-Refused-frame_from-2.ensures
-
-pub returns-in-Framed-frame_from-2 : goal.returns-in-Framed-frame_from-2
-returns-in-Framed-frame_from-2 c =
-    let q = behind_tasks _ c.frame_tasks.ensures _ c.in-Framed.is in
-    let bytes = bytes_by_index c.args.image.now (λ i. (c.type_inv.image i).fits) in
-    let walked = c.walk_entries-w.ensures _ (set_stands bytes q.0 q.1 c.read_set-set.ensures (c.judge_set.ensures.keeps _ c.in-Good.is)) in
-    judged_told bytes q.0 q.1 c.read_set-set.ensures walked (c.judge_set.ensures.keeps _ c.in-Good.is) _ _
-    c.frame_from-in-Good.ensures c.in-Framed-frame_from-2.is _ c.told.ensures
+pub returns : goal.returns
+returns c =
+    let a = goal.at.returns c in
+    let s = set_behind a.After-read_set-set in
+    judged_told s (walked a.After-walk_entries-w s) (c.in_default.ensures.keeps _ refl) c.in_ok-frame_from-2.ensures c.told.ensures

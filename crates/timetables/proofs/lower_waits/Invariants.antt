@@ -1,10 +1,6 @@
--- `timetables::lower_waits` meets its contract. The loop's invariant: none of the releases passed has come. Assumes nothing.
-use Rattle.std.proofs.Common.{◌≡◌, ◌-◌, ◌≤◌, false, take}
-use Rattle.timetables.specs.Instants.{some_by}
+-- `timetables::lower_waits` meets its contract. The invariant: none of the releases passed has come. Assumes nothing.
+use Rattle.std.proofs.Common.{ℕ, ◌<◌, get_or}
 use Rattle.timetables.proofs.lower_waits.Given as goal
 
-abbrev pub invariant-loop-k : goal.invariant-loop-k
-invariant-loop-k l = (l.k ≤ l.i) × (some_by l.start (take l.k l.release) ≡ false)
-
-abbrev pub decreases-loop-k : goal.decreases-loop-k
-decreases-loop-k l = l.i - l.k
+abbrev pub invariant-loop-r : goal.invariant-loop-r
+invariant-loop-r l = (k : ℕ) → k < l.r-index → l.start < get_or l.r-items k 0

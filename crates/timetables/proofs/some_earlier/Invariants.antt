@@ -1,10 +1,6 @@
--- `timetables::some_earlier` meets its contract. The invariant: none of the releases passed is earlier. Assumes nothing.
-use Rattle.std.proofs.Common.{◌-◌, ◌≤◌, take}
-use Rattle.timetables.specs.Instants.{least_of}
+-- `timetables::some_earlier` meets its contract. The invariant: none of the releases passed has come. Assumes nothing.
+use Rattle.std.proofs.Common.{ℕ, ◌<◌, ◌≤◌, get_or}
 use Rattle.timetables.proofs.some_earlier.Given as goal
 
-abbrev pub invariant-loop-k : goal.invariant-loop-k
-invariant-loop-k l = (l.k ≤ l.n) × (l.start ≤ least_of (take l.k l.release))
-
-abbrev pub decreases-loop-k : goal.decreases-loop-k
-decreases-loop-k l = l.n - l.k
+abbrev pub invariant-loop-r : goal.invariant-loop-r
+invariant-loop-r l = (k : ℕ) → k < l.r-index → l.start ≤ get_or l.r-items k 0

@@ -7,7 +7,7 @@ use Rattle.timetables.proofs.Walking.{Walking}
 use Rattle.timetables.proofs.walk_entries.Given as goal
 
 abbrev pub invariant-entries : goal.invariant-entries
-invariant-entries l = (ts : Set) → EntriesStand ts l.image l.kept 0 → Walking ts l.image l.kept l.count l.release l.free l.counts l.at l.j
+invariant-entries l = (ts : Set) → EntriesStand ts l.image l.kept 0 → Walking ts l.image l.kept l.count l.release l.free l.counts l.at l.entries
 
 abbrev pub decreases-entries : goal.decreases-entries
 decreases-entries l = length l.image - l.at

@@ -1,49 +1,46 @@
 -- `writing::put_set` meets its contract. The loop's invariant: TS and the tasks passed are put. Assumes nothing.
 use mathlib.Core.Path.{◌≡◌, refl, sym, ◌∙◌, ap, ap₂}
-use mathlib.Core.List.{List}
+use mathlib.Core.List.{List, [], ◌∷◌}
 use Prim.Native.Nat.{ℕ}
 use native.Mathlib.Omega.{arith}
 use native.Mathlib.Numerals.{add-one}
-use lib.ListN.{length, get_or, take}
-use lib.Seq.{length-take-le}
-use borrow.Author.Rules.{rules}
+use lib.ListN.{get_or, take}
+use lib.Seq.{length-take-le, take-take}
+use Rattle.rules.specs.declared.Task.{Task}
 use Rattle.rules.specs.Marks.{TS, TK, size}
 use Rattle.rules.specs.Image.{record_of, of_task}
 use Rattle.rules.specs.Dispatcher.{zero_task}
 use Rattle.rules.specs.Tasks.{memory_set}
-use Rattle.rules.proofs.Arrays.{slots_counted}
+use Rattle.images.specs.Table.{kind_number}
 use Rattle.writing.specs.Writing.{put_at, record_put}
-use Rattle.writing.proofs.Puts.{put_none, put_length}
+use Rattle.writing.proofs.Puts.{put_none}
 use Rattle.writing.proofs.ImagePut.{tasks_bytes, task_put, set_put}
 use Rattle.writing.proofs.put_set.Goals as goal
 
-pub loop-i-init : goal.loop-i-init
-loop-i-init c = (omega arith, refl, sym (put_none _ (size TS) (omega arith)), search (rules, slots_counted))
+pub loop-task-init : goal.loop-task-init
+loop-task-init c = (refl, sym (put_none _ (size TS) (omega arith)))
 
-pub loop-i-preserved : goal.loop-i-preserved
-loop-i-preserved c =
-    let slots = c.args.s.tasks in
-    let i = c.loop-i.i in
-    let front = c.put_head.new.out in (
+pub loop-task-preserved : goal.loop-task-preserved
+loop-task-preserved c =
+    let tasks = take c.args.s.n c.args.s.tasks in
+    let i = c.loop-task.task-index in
+    let front = c.put.new.out in
+    let many = length-take-le c.args.s.n c.args.s.tasks (omega arith) in (
       omega arith,
-      omega arith,
-      c.put_task.ensures
-          ∙ ap₂ (λ (o : List ℕ) (k : ℕ). record_put o k (record_of TK (of_task (get_or slots i zero_task)))) c.loop-i.invariant.2 c.loop-i.invariant.1
-          ∙ task_put front slots zero_task i (omega arith) (omega (arith, c.put_head.auto))
-          ∙ ap (λ (k : ℕ). put_at front (size TS) (tasks_bytes (take k slots))) (sym (add-one i)),
-      c.loop-i.invariant.3,
+      c.put-in-loop-task.ensures
+          ∙ ap₂ (λ (o : List ℕ) (k : ℕ). record_put o k (record_of TK (of_task (get_or tasks i zero_task)))) c.loop-task.invariant.1 c.loop-task.invariant.0
+          ∙ task_put front tasks zero_task i (omega arith) (omega (arith, c.put.auto))
+          ∙ ap (λ (k : ℕ). put_at front (size TS) (tasks_bytes (take k tasks))) (sym (add-one i)),
     )
-
-pub shape_of-out : goal.shape_of-out
-shape_of-out c =
-    ap length c.loop-i.invariant.2 ∙ put_length _ (size TS) _ ∙ c.put_head.auto.out
 
 pub returns : goal.returns
 unfolding memory_set
 returns c =
     let set = c.args.s in
-    let all : c.loop-i.i ≡ set.n = omega arith in
     let many = length-take-le set.n set.tasks (omega arith) in
-    c.loop-i.invariant.2
-    ∙ ap₂ (λ (o : List ℕ) (k : ℕ). put_at o (size TS) (tasks_bytes (take k set.tasks))) c.put_head.ensures all
-    ∙ set_put c.args.out.now c.args.kind set.n (memory_set set) many (omega arith)
+    let all : c.loop-task.task-index ≡ set.n = omega arith in
+    c.loop-task.invariant.1
+    ∙ ap₂ (λ (o : List ℕ) (tasks : List Task). put_at o (size TS) (tasks_bytes tasks))
+    (c.put.ensures ∙ ap (λ (k : ℕ). record_put c.args.out.now 0 (record_of TS (1 ∷ k ∷ set.n ∷ []))) c.number.ensures)
+    (ap (λ (k : ℕ). take k (take set.n set.tasks)) all ∙ take-take set.n set.n set.tasks (omega arith))
+    ∙ set_put c.args.out.now (kind_number c.args.kind) set.n (memory_set set) many (omega arith)

@@ -1,9 +1,0 @@
--- The place is within the text.
-use Rattle.std.proofs.Common.{length, ◌≤◌}
-use Rattle.standard.proofs.before_number.Given as goal
-
-abbrev pub invariant-loop-at : goal.invariant-loop-at
-invariant-loop-at l = l.at ≤ length l.text
-
-abbrev pub decreases-loop-at : goal.decreases-loop-at
-decreases-loop-at l = l.at
