@@ -109,14 +109,27 @@ awk -v room=$((${stack:-0} * 1024 - 512)) '
 echo 'FAULT 16777216' | expect 1 samples/p2.image $around -DUNALIGNED
 echo 'FAULT 524288' | expect 1 samples/p2.image $around -DFLOATING
 
-# A stack below what the calls took does not pass, and one a little above it does. On this board what lies below the RAM reads as 0 and the flash can be written,
-# so that it shows in one of three ways: a fault, a processor that the emulator finds locked up, or a run that does not end.
+# A stack below what the calls took does not pass, and one a little above it does. Below the RAM of this board nothing lies: what is stored there is lost, and it reads
+# as 0. The emulator tells of each such store, and demanded is that it tells of one with the short stack and of none with the other. What comes of it is a fault, a
+# processor that the emulator finds locked up, or a loop whose counter lies there and never moves on, which is stopped after 30 seconds.
+mkdir "$built/emulator"
+cat >"$built/emulator/qemu-system-arm" <<WORDS
+#!/bin/sh
+exec "$(command -v qemu-system-arm)" -d unimp -D "$built/told" "\$@"
+WORDS
+chmod +x "$built/emulator/qemu-system-arm"
+lost() { grep -q 'unimplemented device write' "$built/told"; }
 took=$(awk '/^stack of / && $4 > most { most = $4 } END { print most + 0 }' "$built/painted")
 short=0
-timeout 30 firmware/run samples/p2.image -Wl,--defsym=stack_size=$((took / 8 * 8 - 128)) >"$built/written" 2>&1 </dev/null || short=$?
+PATH=$built/emulator:$PATH timeout 30 firmware/run samples/p2.image -Wl,--defsym=stack_size=$((took / 8 * 8 - 128)) >"$built/written" 2>&1 </dev/null || short=$?
 test "$short" != 0 || fail "a stack of 128 bytes less than the calls took is enough"
+lost || fail "with a stack that is too short nothing is stored below the RAM"
 test "$short" = 124 || grep -q -e '^FAULT ' -e 'fatal: Lockup' "$built/written" || fail "a stack that is too short is no fault"
+kept_path=$PATH
+PATH=$built/emulator:$PATH
 expect 0 samples/p2.image -Wl,--defsym=stack_size=$((took / 8 * 8 + 256)) <"$built/p2"
+PATH=$kept_path
+! lost || fail "with a stack above what the calls took something is stored below the RAM"
 
 # The archive asks for what firmware/memory.c has and the manual names, and the linker names each where that file is empty.
 asked=$(arm-none-eabi-nm -u "$HV_ARCHIVE" | awk 'NF == 2 { print $2 }')

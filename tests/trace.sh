@@ -6,12 +6,12 @@
 set -eu
 cd "$(dirname "$0")/.."
 
-# A public function's head ends with a line that is its opening brace; a contract stands before it.
+# A public function's or method's head ends with a line that is its opening brace; a contract stands before it.
 contracts() {
     awk '
-        /^pub (extern "C" )?fn / { name = $0; contract = 0 }
+        /^ *pub (extern "C" )?fn / { name = $0; contract = 0 }
         /ensures/ { contract = 1 }
-        /^\{/ && name != "" {
+        /^ *\{/ && name != "" {
             if (!contract) { print FILENAME ": no contract: " name; failed = 1 }
             name = ""
             count++
