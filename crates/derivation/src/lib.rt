@@ -121,7 +121,7 @@ pub fn derive(image: &[u8], out: &mut [u8]) -> Result<usize, Located>
     if out.len() < length {
         return Err(TOO_LONG);
     }
-    writing::put_set(out, Kind::Tables, t.set);
+    writing::put_set(out, Kind::Tables.number(), t.set);
     put_irregularities(image, &kept, t.listed, c, out);
     let before = images::head_count(n) + c.idles + c.inversions;
     writing::put(

@@ -196,8 +196,8 @@ fn measured(numbers: &[u32; NUMBERS], kept: &Kept, release: &mut [u32; 16]) -> b
     requires { CanMeasure numbers.now kept.now release.old }
     ensures { Measured numbers.now kept.now result release.new }
 {
-    let n = kept.tasks as usize;
-    for i in 0..n {
+    for k in 0..kept.tasks {
+        let i = k as usize;
         let next = numbers[NEXT + i];
         if kept.jobs[i] < next {
             return false;

@@ -31,14 +31,11 @@ module _ {bytes : List ℕ} {s : Place} (w : Whole bytes s TS) {h : Head}
   pub bad_edition : {kind : ℕ} {r : Located} → r ≡ refusal_at 3 s → (h.edition ≡ 1 → ⊥) → Follows kind bytes s TS (Err r)
   bad_edition {kind} r n = record { next = from_head kind (rw (r, ne_eqb h.edition 1 n)); located = rw r }
 
-  module _ {kind number : ℕ} (edition : h.edition ≡ 1) (number-is : number ≡ kind) where
-    pub bad_kind : {r : Located} → r ≡ refusal_at 4 s → (h.kind ≡ number → ⊥) → Follows kind bytes s TS (Err r)
-    bad_kind r n = record { next = from_head kind (rw (r, eq-eqb h.edition 1 edition, ne_eqb h.kind kind (λ e. n (e ∙ sym number-is)))); located = rw r }
+  module _ {kind : ℕ} (edition : h.edition ≡ 1) where
+    pub bad_kind : {r : Located} → r ≡ refusal_at 4 s → (h.kind ≡ kind → ⊥) → Follows kind bytes s TS (Err r)
+    bad_kind r n = record { next = from_head kind (rw (r, eq-eqb h.edition 1 edition, ne_eqb h.kind kind n)); located = rw r }
 
-    module _ (of_number : h.kind ≡ number) where
-      of_kind : h.kind ≡ kind
-      of_kind = of_number ∙ number-is
-
+    module _ (of_kind : h.kind ≡ kind) where
       pub bad_count : {r : Located} → r ≡ refusal_at 5 s → (h.n < 1) ⊎ ((1 ≤ h.n) × (16 < h.n)) → Follows kind bytes s TS (Err r)
       bad_count r (inl few) =
           record { next = from_head kind (rw (r, eq-eqb h.edition 1 edition, eq-eqb h.kind kind of_kind, lt-leb 1 h.n few)); located = rw r }

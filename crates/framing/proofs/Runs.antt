@@ -79,6 +79,21 @@ module _ {kind : ℕ} {bytes : List ℕ} {s : Place} (m : Mark) (re : Reached ki
             ∙ ap (frame_records kind t) (drop-drop (size m) s.offset bytes ∙ ap (λ (i : ℕ). drop i bytes) (sym (turns.moves behind).1));
       }
 
+-- places one record apart, each in the turn of the record behind it
+pub record Apart (kind : ℕ) (m : Mark) (from many : ℕ) (place : ℕ → Place) : Type 0 where
+  pub at : (j : ℕ) → (place j).offset ≡ from + j * size m
+  pub in_turn : (j : ℕ) → j < many → may_follow (place j).rank (row m).rank ≡ true
+  pub leads : (j : ℕ) → j < many → (v : List ℕ) → after kind (place j) m v ≡ goes_on (place (suc j))
+
+-- so framing comes to the place behind all records of a run
+pub past_run : {kind : ℕ} {bytes : List ℕ} (m : Mark) (from many : ℕ) (place : ℕ → Place) → in_kind kind (row m) ≡ true →
+    Apart kind m from many place → ((j : ℕ) → j < many → stands_at bytes (from + j * size m) m ≡ true) → Reached kind bytes (place 0) →
+    (i : ℕ) → i ≤ many → Reached kind bytes (place i)
+past_run m from many place of_kind a stand re zero h = re
+past_run m from many place of_kind a stand re (suc i) h =
+    past_record m (past_run m from many place of_kind a stand re i (omega arith)) of_kind (a.in_turn i (omega arith))
+    (rw (a.at i) (stand i (omega arith))) (place (suc i)) (a.leads i (omega arith) _)
+
 -- every kind of image has TK
 every_kind : (kind : ℕ) → in_kind kind (row TK) ≡ true
 every_kind kind = by_bool (eqb kind 1) (λ e. rw (e, in_kind)) (λ e. rw (e, in_kind))
@@ -103,13 +118,14 @@ module _ {kind : ℕ} {bytes : List ℕ} {s : Place} (re : Reached kind bytes s)
 
   module _ {many : ℕ} (run : RunOf bytes s.offset TK s.due many) where
     -- each of them leads to the next
-    tasks_reached : (j : ℕ) → j ≤ many → Reached kind bytes (tasks_behind s j)
-    tasks_reached zero h = subst (λ (p : Place). Reached kind bytes p) from_here re
-    tasks_reached (suc j) h =
-        let due : rank_due (s.due - j) ≡ 1 = omega (arith, rank_due_is (s.due - j), run.asked) in
-        let fewer : s.due - j - 1 ≡ s.due - suc j = omega arith in
-        past_record TK (tasks_reached j (omega arith)) (every_kind kind) (rw due) (run.stand j (omega arith)) (tasks_behind s (suc j))
-        (ap goes_on (place_path _ (tasks_behind s (suc j)) (omega arith) (omega arith) (ap rank_due fewer) fewer refl refl refl))
+    tasks_apart : Apart kind TK s.offset many (tasks_behind s)
+    tasks_apart = record {
+      at = λ j. refl;
+      in_turn = λ j l. let due : rank_due (s.due - j) ≡ 1 = omega (arith, rank_due_is (s.due - j), run.asked) in rw due;
+      leads = λ j l v.
+          let fewer : s.due - j - 1 ≡ s.due - suc j = omega arith in
+          ap goes_on (place_path _ (tasks_behind s (suc j)) (omega arith) (omega arith) (ap rank_due fewer) fewer refl refl refl);
+    }
 
     -- framing comes to the place behind them, which is on the way and not before this one
     pub tasks_passed : TasksPassed kind bytes s (tasks_behind s many)
@@ -118,7 +134,8 @@ module _ {kind : ℕ} {bytes : List ℕ} {s : Place} (re : Reached kind bytes s)
         let b = w.counted (omega (arith, is_due)) in
         let few = run.asked in
         record {
-          reached = tasks_reached many (omega arith);
+          reached = past_run TK s.offset many (tasks_behind s) (every_kind kind) tasks_apart run.stand
+              (subst (λ (p : Place). Reached kind bytes p) from_here re) many (omega arith);
           towards = towards_due bytes (s.index + many) (s.offset + many * size TK) (s.due - many) s.tasks a.0 a.1 a.2 (omega arith) (omega arith);
           onwards = omega arith;
         }
@@ -164,11 +181,13 @@ module _ (kind : ℕ) (m : Mark) (s : Place) (listed inversions : ℕ → ℕ) (
   abbrev place : ℕ → Place
   place j = behind_run m s j (listed j) (inversions j)
 
-  -- so framing comes to the place behind a run of them
-  pub run_passed : {bytes : List ℕ} (most many : ℕ) → Reached kind bytes s → RunOf bytes s.offset m most many →
-      Reached kind bytes (behind_run m s many (listed many) (inversions many))
+  run_apart : (many : ℕ) → Apart kind m s.offset many place
   unfolding behind_run
-  run_passed {bytes} most many re run = reached many (omega arith)
+  run_apart many = record {
+    at = at;
+    in_turn = λ j h. turn j;
+    leads = λ j h v. c.goes (place j) j v (counted j).0 (counted j).1 ∙ ap goes_on (next j);
+  }
     where
       own : (row m).rank ≡ least_behind (row m)
       own = behind_many (row m) c.again
@@ -189,11 +208,11 @@ module _ (kind : ℕ) (m : Mark) (s : Place) (listed inversions : ℕ → ℕ) (
       next zero = place_path _ (place 1) (omega arith) (omega (arith, suc-mul 0 (size m), zero-mul (size m))) refl refl refl refl refl
       next (suc j) = place_path _ (place (suc (suc j))) (omega arith) (omega (arith, suc-mul (suc j) (size m))) refl refl refl refl refl
 
-      reached : (j : ℕ) → j ≤ many → Reached kind bytes (place j)
-      reached zero h = re
-      reached (suc j) h =
-          past_record m (reached j (omega arith)) c.of_kind (turn j) (rw (at j) (run.stand j (omega arith))) (place (suc j))
-          (c.goes (place j) j _ (counted j).0 (counted j).1 ∙ ap goes_on (next j))
+  -- so framing comes to the place behind a run of them
+  pub run_passed : {bytes : List ℕ} (most many : ℕ) → Reached kind bytes s → RunOf bytes s.offset m most many →
+      Reached kind bytes (behind_run m s many (listed many) (inversions many))
+  unfolding behind_run
+  run_passed most many re run = past_run m s.offset many place c.of_kind (run_apart many) run.stand re many (omega arith)
 
 -- in an image of tables, from the place behind the tasks on: ID records, behind which PV records may stand
 idles_rank : (s : Place) (many listed inversions : ℕ) → s.rank ≡ 2 →

@@ -4,28 +4,29 @@
 ghost use Rattle.std.specs.Prelude.{◌≡◌, ℕ, ◌≤◌, length};
 ghost use Rattle.rules.specs.Marks as book_marks;
 ghost use Rattle.rules.specs.Framing as book_framing;
-ghost use Rattle.images.specs.Table.{mark_of, kind_number};
+ghost use Rattle.images.specs.Table.{mark_of};
 ghost use Rattle.framing.specs.Allowed.{kind_at, allowed_at};
 ghost use Rattle.framing.specs.Frames.{refusal_at, Placed, Whole, Follows, Steps, Room, behind_run, Reached, RunOf, TowardsTasks, TasksPassed, TasksFramed};
 ghost use Rattle.framing.specs.Frames.{frame_as, frame_answer};
 ghost use Rattle.framing.specs.SetRead.{set_read, set_located};
 
-use images::{Class, END_SIZE, End, HEAD_SIZE, Head, Kind, Mark, TASK_SIZE, stands};
+use images::{Class, END_SIZE, End, HEAD_SIZE, Head, Kind, Mark, NamesMark, TASK_SIZE, stands};
 use rules::{Layout, Located, NO_TASK, Place, Refusal, Task, TaskSet};
 
-// Does an image of a kind have a mark?
-fn in_kind(kind: Kind, mark: Mark) -> bool
-    ensures { result ≡ kind_at (kind_number kind) (mark_of mark) }
+// Does an image of a kind have a mark? Every kind but that of timetables has the marks of tables.
+fn in_kind(kind: u32, mark: Mark) -> bool
+    ensures { result ≡ kind_at kind (mark_of mark) }
 {
-    match kind {
-        Kind::Timetable => mark.row().timetable,
-        Kind::Tables => mark.row().tables,
+    let row = mark.row();
+    if kind == Kind::Timetable.number() {
+        return row.timetable;
     }
+    row.tables
 }
 
 // May a mark stand in an image of a kind where no rank below the least may?
-fn allowed(kind: Kind, least: usize, mark: Mark) -> bool
-    ensures { result ≡ allowed_at (kind_number kind) least (mark_of mark) }
+fn allowed(kind: u32, least: usize, mark: Mark) -> bool
+    ensures { result ≡ allowed_at kind least (mark_of mark) }
 {
     if !in_kind(kind, mark) {
         return false;
@@ -71,15 +72,15 @@ fn tasks_due(index: usize, offset: usize, due: usize, n: usize) -> Place
 }
 
 // TS: 3, 4 and 5, then n tasks are due.
-fn after_head(image: &[u8], kind: Kind, s: Place) -> Result<Step, Located>
+fn after_head(image: &[u8], kind: u32, s: Place) -> Result<Step, Located>
     requires { Whole image.now s book_marks.TS }
-    ensures { Follows (kind_number kind) image.now s book_marks.TS result }
+    ensures { Follows kind image.now s book_marks.TS result }
 {
     let h = images::read::<Head>(image, s.offset);
     if h.edition != 1 {
         return Err(refusal_at(3, s));
     }
-    if h.kind != kind.number() {
+    if h.kind != kind {
         return Err(refusal_at(4, s));
     }
     if h.n < 1 || 16 < h.n {
@@ -99,14 +100,20 @@ fn after_task(s: Place) -> Place
 }
 
 // Past so many records with one mark between the tasks and EN, with what is counted then.
-pub fn past(s: Place, mark: Mark, count: usize, listed: usize, inversions: usize) -> Place
-    requires { Room s (mark_of mark) count }
-    ensures { result ≡ behind_run (mark_of mark) s count listed inversions }
+pub fn past<M: NamesMark>(
+    s: Place,
+    mark: M,
+    count: usize,
+    listed: usize,
+    inversions: usize,
+) -> Place
+    requires { Room s (M.named mark) count }
+    ensures { result ≡ behind_run (M.named mark) s count listed inversions }
 {
     if count == 0 {
         return s;
     }
-    let row = mark.row();
+    let row = mark.mark().row();
     Place {
         index: s.index + count,
         offset: s.offset + count * row.size,
@@ -136,9 +143,9 @@ fn after_end(image: &[u8], s: Place) -> Result<Step, Located>
 }
 
 // A whole record, by the class of its mark.
-fn after(image: &[u8], kind: Kind, s: Place, mark: Mark) -> Result<Step, Located>
+fn after(image: &[u8], kind: u32, s: Place, mark: Mark) -> Result<Step, Located>
     requires { Whole image.now s (mark_of mark) }
-    ensures { Follows (kind_number kind) image.now s (mark_of mark) result }
+    ensures { Follows kind image.now s (mark_of mark) result }
 {
     match mark.row().class {
         Class::Head => after_head(image, kind, s),
@@ -151,9 +158,9 @@ fn after(image: &[u8], kind: Kind, s: Place, mark: Mark) -> Result<Step, Located
 }
 
 // One record: fewer than two bytes left, mark, cut body, then the record's own tests.
-fn step_at(image: &[u8], kind: Kind, s: Place) -> Result<Step, Located>
+fn step_at(image: &[u8], kind: u32, s: Place) -> Result<Step, Located>
     requires { Placed image.now s }
-    ensures { Steps (kind_number kind) image.now s result }
+    ensures { Steps kind image.now s result }
 {
     let at = s.offset;
     let left = image.len() - at;
@@ -207,8 +214,8 @@ fn past_tasks(image: &[u8], s: Place) -> Place
 }
 
 // Framing of TS and the tasks: the place behind them.
-pub fn frame_tasks(image: &[u8], kind: Kind) -> Result<Place, Located>
-    ensures { TasksFramed (kind_number kind) image.now result }
+pub fn frame_tasks(image: &[u8], kind: u32) -> Result<Place, Located>
+    ensures { TasksFramed kind image.now result }
 {
     let mut s = Place {
         index: 0,
@@ -230,9 +237,9 @@ pub fn frame_tasks(image: &[u8], kind: Kind) -> Result<Place, Located>
 
 // Framing from a place that it comes to: record by record, left from inside with the first refusal or at EN, behind which nothing may follow where the
 // image is whole.
-pub fn frame_from(image: &[u8], kind: Kind, whole: bool, place: Place) -> Result<Layout, Located>
-    requires { Reached (kind_number kind) image.now place }
-    ensures { result ≡ frame_answer image.now (frame_as whole (kind_number kind) image.now) }
+pub fn frame_from(image: &[u8], kind: u32, whole: bool, place: Place) -> Result<Layout, Located>
+    requires { Reached kind image.now place }
+    ensures { result ≡ frame_answer image.now (frame_as whole kind image.now) }
 {
     let mut s = place;
     'records: loop {
@@ -253,12 +260,13 @@ pub fn frame_from(image: &[u8], kind: Kind, whole: bool, place: Place) -> Result
 pub fn frame(image: &[u8], whole: bool) -> Result<Layout, Located>
     ensures { result ≡ frame_answer image.now (frame_as whole 2 image.now) }
 {
-    let s = frame_tasks(image, Kind::Tables)?;
+    let kind = Kind::Tables.number();
+    let s = frame_tasks(image, kind)?;
     let idles = run(image, s.offset, Mark::ID, image.len());
     let t = past(s, Mark::ID, idles, s.listed + idles, s.inversions);
     let inversions = run(image, t.offset, Mark::PV, image.len());
     let behind = past(t, Mark::PV, inversions, t.listed, t.inversions + inversions);
-    frame_from(image, Kind::Tables, whole, behind)
+    frame_from(image, kind, whole, behind)
 }
 
 // A set's refusal located in the image that the set is read from: its place is the index of TS or of a task's TK.

@@ -3,7 +3,7 @@ use Rattle.std.specs.Prelude.{Bool, List, ℕ, ◌+◌, ◌*◌, Some, None, leb
 use Rattle.std.specs.Prelude.{Option as CodeOption}
 use Rattle.std.proofs.Math.Option.{Option, none, some}
 use Rattle.rules.specs.Tasks.{both}
-use Rattle.rules.specs.Marks.{Mark, TS, TK, SL, ID, PV, EN, Class, head_class, task_class, option_class, listed_class, inversion_class, end_class, row, size, body_length}
+use Rattle.rules.specs.Marks.{Mark, TS, TK, SL, ID, PV, EN, Class, head_class, task_class, option_class, listed_class, inversion_class, end_class, row, marks, size, body_length}
 use Rattle.images.specs.declared.Class.{Class as CodeClass}
 use Rattle.images.specs.declared.Class.TheVariants as class_case
 use Rattle.images.specs.declared.Row.{Row}
@@ -24,6 +24,10 @@ mark_of mark_case.EN = EN
 abbrev pub found_mark : CodeOption CodeMark → Option Mark
 found_mark None = none
 found_mark (Some m) = some (mark_of m)
+
+-- the mark at a place of the table, EN behind it
+abbrev pub mark_at : ℕ → Mark
+mark_at k = get_or marks k EN
 
 -- the number of a kind in an image
 abbrev pub kind_number : Kind → ℕ

@@ -7,7 +7,7 @@ ghost use Rattle.rules.specs.Marks as book_marks;
 ghost use Rattle.rules.specs.Image as book;
 ghost use Rattle.images.specs.declared.Mark.{Mark as CodeMark};
 ghost use Rattle.images.specs.declared.Mark.TheVariants as mark_case;
-ghost use Rattle.images.specs.Table.{mark_of, found_mark, kind_number, code_row, pair_of, stands_at};
+ghost use Rattle.images.specs.Table.{mark_of, mark_at, found_mark, kind_number, code_row, pair_of, stands_at};
 ghost use Rattle.images.specs.Bodies.{part_of, head_of, of_head, task_of, entry_of, idle_of, inversion_of, end_of, of_end};
 
 use rules::{Entry, Idle, Inversion, Task};
@@ -222,6 +222,37 @@ impl Mark {
     }
 }
 
+// What names a mark: itself, or its place in the table, EN's behind it.
+pub trait NamesMark: Copy {
+    ghost named: { Self → book_marks.Mark };
+
+    fn mark(self) -> Mark
+        ensures { mark_of result ≡ named self };
+}
+
+impl NamesMark for Mark {
+    ghost named = { mark_of };
+
+    fn mark(self) -> Mark {
+        self
+    }
+}
+
+impl NamesMark for usize {
+    ghost named = { mark_at };
+
+    fn mark(self) -> Mark {
+        match self {
+            0 => Mark::TS,
+            1 => Mark::TK,
+            2 => Mark::SL,
+            3 => Mark::ID,
+            4 => Mark::PV,
+            _ => Mark::EN,
+        }
+    }
+}
+
 // How many records the head of an image of n tasks has: TS and n TK.
 pub fn head_count(n: usize) -> usize
     requires { n < 4294967296 }
@@ -239,18 +270,19 @@ pub fn head_length(n: usize) -> usize
 }
 
 // Does a record with a mark stand at a place from which on there are bytes enough for one?
-pub fn marked(image: &[u8], at: usize, mark: Mark) -> bool
-    requires { at + book_marks.size (mark_of mark) ≤ length image.now }
-    ensures { result ≡ stands_at image.now at (mark_of mark) }
+pub fn marked<M: NamesMark>(image: &[u8], at: usize, mark: M) -> bool
+    requires { at + book_marks.size (M.named mark) ≤ length image.now }
+    ensures { result ≡ stands_at image.now at (M.named mark) }
 {
-    mark.is(pair(image[at], image[at + 1]))
+    mark.mark().is(pair(image[at], image[at + 1]))
 }
 
 // Does a whole record with a mark stand at a place?
-pub fn stands(image: &[u8], at: usize, mark: Mark) -> bool
+pub fn stands<M: NamesMark>(image: &[u8], at: usize, mark: M) -> bool
     requires { at ≤ length image.now }
-    ensures { result ≡ stands_at image.now at (mark_of mark) }
+    ensures { result ≡ stands_at image.now at (M.named mark) }
 {
+    let mark = mark.mark();
     if image.len() - at < mark.size() {
         return false;
     }

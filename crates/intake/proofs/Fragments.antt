@@ -1,5 +1,4 @@
--- Laws of fragments: when one is joined to what an intake holds, what a copy behind the held bytes leaves in the buffer, and what the intake holds then.
--- Assumes nothing.
+-- Laws of fragments: when one is joined to what an intake holds, and what stands at the front of a buffer that holds it. Assumes nothing.
 use mathlib.Core.Path.{◌≡◌, sym, ◌∙◌, ap, subst}
 use mathlib.Core.List.{List, ◌++◌}
 use Prim.Native.Nat.{ℕ, ◌+◌, ◌≤◌, ◌<◌}

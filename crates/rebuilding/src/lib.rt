@@ -38,7 +38,7 @@ pub fn rebuild(image: &[u8], out: &mut [u8]) -> Result<usize, Located>
     if out.len() < length {
         return Err(TOO_LONG);
     }
-    writing::put_set(out, Kind::Timetable, t.set);
+    writing::put_set(out, Kind::Timetable.number(), t.set);
     put_entries(image, &kept, t.first, out);
     let before = (head_count(n) + starts) as u32;
     writing::put(out, end, End { before });

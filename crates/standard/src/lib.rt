@@ -2,19 +2,20 @@
 // interrupted is made again; a proved loop has to end, so that is counted, up to a number that no run uses up.
 #![tactic(auto)]
 
-ghost use Rattle.std.specs.Prelude.{◌≡◌, ◌≤◌, ◌<◌, length, IfErr};
+ghost use Rattle.std.specs.Prelude.{◌≡◌, ◌≤◌, ◌<◌, length, IfErr, MatchResult};
 ghost use Rattle.standard.specs.Calls.{made_of, AsErrno, Moves, ReadFrom, ReadBehind};
 ghost use Rattle.standard.specs.Known.{Gives, Comes, Takes, Written};
 
 use std::io;
 use std::io::{ErrorKind, Read, Write};
 
-// A program's streams.
+// A program's streams, and the error of the last call that failed: before the first the system's number 0, as errno has it.
 #[derive(Drop)]
 pub struct Streams<R, W, E> {
     input: R,
     output: W,
     errors: E,
+    error: io::Error,
 }
 
 impl<R, W, E> Streams<R, W, E> {
@@ -27,23 +28,25 @@ impl<R, W, E> Streams<R, W, E> {
             input,
             output,
             errors,
+            error: io::Error::from_raw_os_error(0),
         }
     }
 }
 
-// What a call came to, or nothing where it was interrupted and is to be made again.
-fn unless_interrupted(got: io::Result<usize>) -> Option<io::Result<usize>>
+// What a call came to, or nothing where it was interrupted and is to be made again. The error of one that failed is kept, interrupted or not.
+fn unless_interrupted(got: io::Result<usize>, last: &mut io::Error) -> Option<io::Result<usize>>
     ensures made { result ≡ made_of got }
     ensures errno { AsErrno got result }
+    ensures last { MatchResult got (λ _. last.new ≡ last.old) (λ error. last.new ≡ error) }
 {
-    match got {
-        Err(error) if error.kind() == ErrorKind::Interrupted => None,
-        got => Some(got),
+    if let Err(error) = got {
+        *last = error;
+        if error.kind() == ErrorKind::Interrupted {
+            return None;
+        }
     }
+    Some(got)
 }
-
-// The system's number of an interruption.
-const EINTR: i32 = 4;
 
 impl<R: Read, W, E> Streams<R, W, E> {
     // A read of standard input, to a place of the buffer and behind it.
@@ -55,11 +58,12 @@ impl<R: Read, W, E> Streams<R, W, E> {
         ensures errors { self.new.errors ≡ self.old.errors }
     {
         for _ in 0..u64::MAX {
-            if let Some(got) = unless_interrupted(self.input.read(&mut input[at..])) {
+            let got = self.input.read(&mut input[at..]);
+            if let Some(got) = unless_interrupted(got, &mut self.error) {
                 return got;
             }
         }
-        Err(io::Error::from_raw_os_error(EINTR))
+        Err(self.error)
     }
 
     // Reads standard input behind so many bytes that are held, and answers how many are held then: no more where it has ended, or where the buffer is full.
@@ -75,7 +79,7 @@ impl<R: Read, W, E> Streams<R, W, E> {
     }
 }
 
-// A text of which only so many bytes were taken: by the error of the write that failed, or by the system's number 0 where one took nothing.
+// A text of which only so many bytes were taken: by the error of the write that failed, or where one took nothing by that of the last call that failed.
 #[derive(Clone, Copy)]
 pub struct Unfinished {
     pub taken: usize,
@@ -88,21 +92,24 @@ impl<R, W: Write, E> Streams<R, W, E> {
         requires { at ≤ length text.now }
         ensures written { Moves at result text.now }
         ensures known { Takes at result text.now (W.contents self.old.output) (W.contents self.new.output) }
+        ensures last { IfErr result (λ error. error ≡ self.new.error) }
         ensures input { self.new.input ≡ self.old.input }
         ensures errors { self.new.errors ≡ self.old.errors }
     {
         for _ in 0..u64::MAX {
-            if let Some(got) = unless_interrupted(self.output.write(&text[at..])) {
+            let got = self.output.write(&text[at..]);
+            if let Some(got) = unless_interrupted(got, &mut self.error) {
                 return got;
             }
         }
-        Err(io::Error::from_raw_os_error(EINTR))
+        Err(self.error)
     }
 
     // Writes a text to standard output.
     pub fn write_text(&mut self, text: &[u8]) -> Result<(), Unfinished>
         ensures inside { IfErr result (λ r. r.taken < length text.now) }
         ensures known { Written text.now result (W.contents self.old.output) (W.contents self.new.output) }
+        ensures last { IfErr result (λ r. r.error ≡ self.new.error) }
         ensures input { self.new.input ≡ self.old.input }
         ensures errors { self.new.errors ≡ self.old.errors }
     {
@@ -112,7 +119,7 @@ impl<R, W: Write, E> Streams<R, W, E> {
                 Ok(0) => {
                     return Err(Unfinished {
                         taken: at,
-                        error: io::Error::from_raw_os_error(0),
+                        error: self.error,
                     });
                 }
                 Ok(n) => at += n,
@@ -212,6 +219,25 @@ mod tests {
         }
     }
 
+    // A stream that takes nothing, but for the calls that fail, by their errno.
+    #[derive(Drop)]
+    struct Full {
+        calls: Failing,
+    }
+
+    impl Write for Full {
+        fn write(&mut self, _buf: &[u8]) -> io::Result<usize> {
+            self.calls.call()?;
+            Ok(0)
+        }
+
+        fn flush(&mut self) -> io::Result<()> {
+            Ok(())
+        }
+    }
+
+    const EINTR: i32 = 4;
+
     const EISDIR: i32 = 21;
 
     const ENOSPC: i32 = 28;
@@ -255,6 +281,44 @@ mod tests {
         assert!(rt; streams.write_text(b"abc").is_ok());
         assert!(rt;
             streams.errors.as_slice() == b"test: output: No space left on device\n".as_slice()
+        );
+    }
+
+    // Writes a text, and tells where not all of it was taken.
+    fn write_or_tell<R, W: Write, E: Write>(streams: &mut Streams<R, W, E>) {
+        if let Err(unfinished) = streams.write_text(b"abc") {
+            streams.fail(b"test: output", &unfinished.error);
+        }
+    }
+
+    // A write that takes nothing is told by the error of the last call that failed, a read or a write, be it long before; before the first by number 0.
+    #[test]
+    fn takes_nothing(rt: HostRuntime) {
+        let input = Failing {
+            errors: [EINTR, 0, EISDIR, 0],
+            calls: 0,
+        };
+        let output = Full {
+            calls: Failing {
+                errors: [0, 0, 0, EINTR],
+                calls: 0,
+            },
+        };
+        let mut streams = Streams::new(input, output, Vec::new(rt.alloc()));
+        let mut bytes = [b'a'; 3];
+        write_or_tell(&mut streams);
+        assert!(rt; streams.read_behind(&mut bytes, 0).is_ok());
+        write_or_tell(&mut streams);
+        assert!(rt; streams.read_behind(&mut bytes, 0).is_err());
+        write_or_tell(&mut streams);
+        write_or_tell(&mut streams);
+        assert!(rt;
+            streams.errors.as_slice()
+                == b"test: output: Success\n\
+                test: output: Interrupted system call\n\
+                test: output: Is a directory\n\
+                test: output: Interrupted system call\n"
+                    .as_slice()
         );
     }
 }

@@ -223,15 +223,16 @@ fn told(set: TaskSet, w: Walk) -> Result<Timetable, Located>
 pub fn judge(image: &[u8], count: bool, kept: &mut Kept) -> Result<Timetable, Located>
     ensures { JudgedAs image.now count result kept.new }
 {
-    let p = framing::frame_tasks(image, Kind::Timetable)?;
+    let kind = Kind::Timetable.number();
+    let p = framing::frame_tasks(image, kind)?;
     let set = framing::read_set(image, p.tasks);
     if let Err(fault) = sets::judge_set(set, kept) {
-        framing::frame_from(image, Kind::Timetable, true, p)?;
+        framing::frame_from(image, kind, true, p)?;
         return Err(framing::set_refused(fault));
     }
     let w = walk_entries(image, kept, count);
     let behind = framing::past(p, Mark::SL, w.entries, w.entries, 0);
-    framing::frame_from(image, Kind::Timetable, true, behind)?;
+    framing::frame_from(image, kind, true, behind)?;
     told(set, w)
 }
 

@@ -5,10 +5,10 @@ ghost use Rattle.std.specs.Prelude.{◌≡◌, ◌≤◌, length};
 ghost use Rattle.rules.specs.Tasks as book_tasks;
 ghost use Rattle.rules.specs.Marks as book_marks;
 ghost use Rattle.rules.specs.Image as book;
-ghost use Rattle.images.specs.Table.{mark_of, kind_number};
+ghost use Rattle.images.specs.Table.{mark_of};
 ghost use Rattle.writing.specs.Writing.{put_at, record_put};
 
-use images::{HEAD_SIZE, Head, Kind, Record, TASK_SIZE};
+use images::{HEAD_SIZE, Head, Record, TASK_SIZE};
 use rules::TaskSet;
 
 // A record at a place; nothing where it does not fit.
@@ -24,14 +24,14 @@ pub fn put<R: Record>(out: &mut [u8], at: usize, record: R)
 }
 
 // TS and the tasks at the front of the output.
-pub fn put_set(out: &mut [u8], kind: Kind, s: TaskSet)
+pub fn put_set(out: &mut [u8], kind: u32, s: TaskSet)
     requires few { s.n ≤ 16 }
     requires inside { book_marks.head_length_of s.n ≤ length out.old }
-    ensures { out.new ≡ put_at out.old 0 (book.image (book.head_records (kind_number kind) (book_tasks.memory_set s))) }
+    ensures { out.new ≡ put_at out.old 0 (book.image (book.head_records kind (book_tasks.memory_set s))) }
 {
     let head = Head {
         edition: 1,
-        kind: kind.number(),
+        kind,
         n: s.n,
     };
     put(out, 0, head);

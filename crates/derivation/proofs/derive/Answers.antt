@@ -37,6 +37,6 @@ returns c =
     let g = c.in_ok-t.ensures in
     record {
       answer = answered g _ _ (omega arith) c.if-out-length.false;
-      output = put_out g _ _ (omega arith) c.if-out-length.false _ _ _ _ _ c.put_set.ensures
+      output = put_out g _ _ (omega arith) c.if-out-length.false _ _ _ _ _ (rw c.number.ensures at c.put_set.ensures)
           (c.put_irregularities.ensures _ (can_put g (omega arith))) c.put.ensures (omega arith) (omega arith);
     }

@@ -4,16 +4,16 @@ use Rattle.dispatcher.proofs.Measuring.{release_here, too_many_here, more_so_far
 use Rattle.dispatcher.proofs.measured.Goals as goal
 
 pub overflow_mul-release : goal.overflow_mul-release
-overflow_mul-release c = omega (arith, release_here c.requires c.loop-i.i (omega arith) c.if-kept-i.false)
+overflow_mul-release c = omega (arith, release_here c.requires c.loop-k.k (omega arith) c.if-kept-i.false)
 
 pub overflow_add-release : goal.overflow_add-release
-overflow_add-release c = omega (arith, release_here c.requires c.loop-i.i (omega arith) c.if-kept-i.false)
+overflow_add-release c = omega (arith, release_here c.requires c.loop-k.k (omega arith) c.if-kept-i.false)
 
-pub loop-i-preserved : goal.loop-i-preserved
-loop-i-preserved c = more_so_far c.requires c.loop-i.invariant (omega arith) c.if-kept-i.false
+pub loop-k-preserved : goal.loop-k-preserved
+loop-k-preserved c = more_so_far c.requires c.loop-k.invariant (omega arith) c.if-kept-i.false
 
 pub returns-then-kept-i : goal.returns-then-kept-i
-returns-then-kept-i c = too_many_here c.requires c.loop-i.i (omega arith) c.if-kept-i.true
+returns-then-kept-i c = too_many_here c.requires c.loop-k.k (omega arith) c.if-kept-i.true
 
 pub returns : goal.returns
-returns c = all_so_far c.requires c.loop-i.invariant (omega arith)
+returns c = all_so_far c.requires c.loop-k.invariant (omega arith)

@@ -2,5 +2,5 @@
 use Rattle.dispatcher.proofs.Measuring.{SoFar}
 use Rattle.dispatcher.proofs.measured.Given as goal
 
-abbrev pub invariant-loop-i : goal.invariant-loop-i
-invariant-loop-i l = SoFar l.numbers l.kept l.release l.i
+abbrev pub invariant-loop-k : goal.invariant-loop-k
+invariant-loop-k l = SoFar l.numbers l.kept l.release l.k

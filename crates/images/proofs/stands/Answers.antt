@@ -4,7 +4,10 @@ use Rattle.images.proofs.TableLaws.{stands_cut}
 use Rattle.images.proofs.stands.Goals as goal
 
 pub returns-then-image-at : goal.returns-then-image-at
-returns-then-image-at c = stands_cut _ _ _ (omega (arith, c.if-image-at.true, c.size.ensures))
+returns-then-image-at g c = rw (← c.mark-mark.ensures) (stands_cut _ _ _ (omega (arith, c.if-image-at.true, c.size.ensures)))
 
 pub returns : goal.returns
-returns c = c.marked.ensures
+returns g c = rw c.mark-mark.ensures at c.marked.ensures
+
+pub marked-requires : goal.marked-requires
+marked-requires g c = omega arith

@@ -28,5 +28,5 @@ put_entries-requires c =
 pub returns : goal.returns
 returns c =
     let g = c.in_ok-t.ensures in
-    put_out g _ _ _ _ _ _ _ (omega arith) c.if-out-length.false c.put_set.ensures (c.put_entries.ensures _ _ g.keeps (behind_good g)) c.put.ensures
+    put_out g _ _ _ _ _ _ _ (omega arith) c.if-out-length.false (rw c.number.ensures at c.put_set.ensures) (c.put_entries.ensures _ _ g.keeps (behind_good g)) c.put.ensures
     (omega arith) (omega arith)

@@ -1,5 +1,5 @@
 -- `timetables::judge` meets its contract: by framing, by the set or by the entries. Assumes nothing.
-use Rattle.std.proofs.Common.{refl, arith}
+use Rattle.std.proofs.Common.{rules, refl, arith}
 use Rattle.fields.proofs.Laws.{bytes_by_index}
 use Rattle.rules.specs.Tasks.{memory_set}
 use Rattle.timetables.specs.Judged.{Walked}
@@ -10,7 +10,7 @@ use Rattle.timetables.proofs.judge.Goals.{After-read_set-set, After-walk_entries
 -- the set is that behind whose tasks framing has come to a place
 set_behind : (c : After-read_set-set) → SetBehind c.args.image.now c.in_ok-p.p c.read_set-set.result
 set_behind c =
-    let p = c.in_ok-p.ensures in
+    let p = rw c.number-kind.ensures at c.in_ok-p.ensures in
     record { fits = bytes_by_index c.args.image.now (λ i. (c.type_inv.image i).fits); re = p.0; behind = p.1; is = c.read_set-set.ensures }
 
 -- what the walk over the entries of a good set tells
@@ -24,7 +24,7 @@ set_refused-requires c = set_fault_place (set_behind (goal.at.set_refused-requir
 pub returns-in-Err : goal.returns-in-Err
 returns-in-Err c =
     let s = set_behind (goal.at.returns-in-Err c).After-read_set-set in
-    judged_by_set s c.in-Err.ensures.answer c.in_ok-frame_from.ensures c.set_refused.ensures
+    judged_by_set s c.in-Err.ensures.answer (rw c.number-kind.ensures at c.in_ok-frame_from.ensures) c.set_refused.ensures
 
 pub walk_entries-w-requires : goal.walk_entries-w-requires
 walk_entries-w-requires c =
@@ -41,7 +41,10 @@ pub frame_from-requires-2 : goal.frame_from-requires-2
 frame_from-requires-2 c =
     let a = goal.at.frame_from-requires-2 c in
     let s = set_behind a.After-read_set-set in
-    rw c.past-behind.ensures (walk_reached s (walked a.After-walk_entries-w s))
+    rw (c.past-behind.ensures, c.number-kind.ensures) (walk_reached s (walked a.After-walk_entries-w s))
+
+pub returns-in_err-frame_from-2 : goal.returns-in_err-frame_from-2
+returns-in_err-frame_from-2 c = let refused = rw c.number-kind.ensures at c.in_err-frame_from-2.ensures in search rules
 
 pub told-requires : goal.told-requires
 told-requires c =
@@ -53,4 +56,5 @@ pub returns : goal.returns
 returns c =
     let a = goal.at.returns c in
     let s = set_behind a.After-read_set-set in
-    judged_told s (walked a.After-walk_entries-w s) (c.in_default.ensures.keeps _ refl) c.in_ok-frame_from-2.ensures c.told.ensures
+    judged_told s (walked a.After-walk_entries-w s) (c.in_default.ensures.keeps _ refl) (rw c.number-kind.ensures at c.in_ok-frame_from-2.ensures)
+    c.told.ensures

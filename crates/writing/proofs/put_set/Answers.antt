@@ -1,6 +1,6 @@
 -- `writing::put_set` meets its contract. The loop's invariant: TS and the tasks passed are put. Assumes nothing.
 use mathlib.Core.Path.{◌≡◌, refl, sym, ◌∙◌, ap, ap₂}
-use mathlib.Core.List.{List, [], ◌∷◌}
+use mathlib.Core.List.{List}
 use Prim.Native.Nat.{ℕ}
 use native.Mathlib.Omega.{arith}
 use native.Mathlib.Numerals.{add-one}
@@ -11,7 +11,6 @@ use Rattle.rules.specs.Marks.{TS, TK, size}
 use Rattle.rules.specs.Image.{record_of, of_task}
 use Rattle.rules.specs.Dispatcher.{zero_task}
 use Rattle.rules.specs.Tasks.{memory_set}
-use Rattle.images.specs.Table.{kind_number}
 use Rattle.writing.specs.Writing.{put_at, record_put}
 use Rattle.writing.proofs.Puts.{put_none}
 use Rattle.writing.proofs.ImagePut.{tasks_bytes, task_put, set_put}
@@ -41,6 +40,6 @@ returns c =
     let all : c.loop-task.task-index ≡ set.n = omega arith in
     c.loop-task.invariant.1
     ∙ ap₂ (λ (o : List ℕ) (tasks : List Task). put_at o (size TS) (tasks_bytes tasks))
-    (c.put.ensures ∙ ap (λ (k : ℕ). record_put c.args.out.now 0 (record_of TS (1 ∷ k ∷ set.n ∷ []))) c.number.ensures)
+    c.put.ensures
     (ap (λ (k : ℕ). take k (take set.n set.tasks)) all ∙ take-take set.n set.n set.tasks (omega arith))
-    ∙ set_put c.args.out.now (kind_number c.args.kind) set.n (memory_set set) many (omega arith)
+    ∙ set_put c.args.out.now c.args.kind set.n (memory_set set) many (omega arith)

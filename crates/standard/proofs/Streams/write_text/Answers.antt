@@ -1,4 +1,4 @@
--- What was taken stands behind what was written before.
+-- What was taken stands behind what was written before. Where a write takes nothing the error that is kept is told.
 use Rattle.std.proofs.KnownBytes.{Appends-nil, Appends-trans}
 use Rattle.std.proofs.Common.{arith, refl}
 use Rattle.std.proofs.Math.Seq.{take-add}
@@ -14,3 +14,6 @@ loop-at-preserved g c = record {
   input = cc;
   errors = cc;
 }
+
+pub returns-in-Ok-eq0-clause-last : goal.returns-in-Ok-eq0-clause-last
+returns-in-Ok-eq0-clause-last g c = refl
