@@ -128,17 +128,19 @@ module _ {kind : ℕ} {bytes : List ℕ} {s : Place} (re : Reached kind bytes s)
     }
 
     -- framing comes to the place behind them, which is on the way and not before this one
-    pub tasks_passed : TasksPassed kind bytes s (tasks_behind s many)
-    tasks_passed =
+    pub tasks_passed : {due : ℕ} → due ≡ s.due - many →
+        TasksPassed kind bytes s (tasks_due (s.index + many) (s.offset + many * size TK) due s.tasks)
+    tasks_passed e =
         let a = w.announced (omega (arith, is_due)) in
         let b = w.counted (omega (arith, is_due)) in
         let few = run.asked in
-        record {
+        rw e
+        (record {
           reached = past_run TK s.offset many (tasks_behind s) (every_kind kind) tasks_apart run.stand
               (subst (λ (p : Place). Reached kind bytes p) from_here re) many (omega arith);
           towards = towards_due bytes (s.index + many) (s.offset + many * size TK) (s.due - many) s.tasks a.0 a.1 a.2 (omega arith) (omega arith);
           onwards = omega arith;
-        }
+        })
 
 -- the rank behind a record, with the row that was read
 module _ (m : Mark) {r : Row} (read : r ≡ code_row m) where

@@ -7,4 +7,4 @@ use Rattle.framing.proofs.past_tasks.Goals as goal
 pub returns : goal.returns
 returns c kind re =
     rw c.tasks_due.ensures
-    (tasks_passed re c.requires.towards (omega (arith, c.run-count.ensures.asked, c.if-count-eq0.false)) c.run-count.ensures)
+    (tasks_passed re c.requires.towards (omega (arith, c.run-count.ensures.asked, c.if-count-eq0.false)) c.run-count.ensures (omega arith))

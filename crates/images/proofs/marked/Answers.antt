@@ -5,4 +5,4 @@ use Rattle.images.proofs.TableLaws.{stands_pair}
 use Rattle.images.proofs.marked.Goals as goal
 
 pub returns : goal.returns
-returns g c = c.is.ensures ∙ rw (c.pair.ensures, c.mark.ensures) (stands_pair _ _ _ c.requires (search rules))
+returns g c = (search rules) ∙ stands_pair _ _ _ c.requires (search rules)

@@ -24,7 +24,7 @@ set_refused-requires c = set_fault_place (set_behind (goal.at.set_refused-requir
 pub returns-in-Err : goal.returns-in-Err
 returns-in-Err c =
     let s = set_behind (goal.at.returns-in-Err c).After-read_set-set in
-    judged_by_set s c.in-Err.ensures.answer (rw c.number-kind.ensures at c.in_ok-frame_from.ensures) c.set_refused.ensures
+    judged_by_set s c.in-Err.ensures.answer (rw c.number-kind.ensures at c.in_ok-frame_from.ensures) (rw c.set_refused.ensures refl)
 
 pub walk_entries-w-requires : goal.walk_entries-w-requires
 walk_entries-w-requires c =

@@ -1,8 +1,9 @@
 -- `writing::put_set` meets its contract. The loop's invariant: TS and the tasks passed are put. Assumes nothing.
 use mathlib.Core.Path.{◌≡◌, refl, sym, ◌∙◌, ap, ap₂}
-use mathlib.Core.List.{List}
+use mathlib.Core.List.{List, [], ◌∷◌}
 use Prim.Native.Nat.{ℕ}
 use native.Mathlib.Omega.{arith}
+use borrow.Author.Rules.{rules}
 use native.Mathlib.Numerals.{add-one}
 use lib.ListN.{get_or, take}
 use lib.Seq.{length-take-le, take-take}
@@ -38,8 +39,9 @@ returns c =
     let set = c.args.s in
     let many = length-take-le set.n set.tasks (omega arith) in
     let all : c.loop-task.task-index ≡ set.n = omega arith in
+    let head : c.put.new.out ≡ record_put c.args.out.now 0 (record_of TS (1 ∷ c.args.kind ∷ set.n ∷ [])) = search rules in
     c.loop-task.invariant.1
     ∙ ap₂ (λ (o : List ℕ) (tasks : List Task). put_at o (size TS) (tasks_bytes tasks))
-    c.put.ensures
+    head
     (ap (λ (k : ℕ). take k (take set.n set.tasks)) all ∙ take-take set.n set.n set.tasks (omega arith))
     ∙ set_put c.args.out.now c.args.kind set.n (memory_set set) many (omega arith)

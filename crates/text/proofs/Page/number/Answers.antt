@@ -21,4 +21,6 @@ pub returns : goal.returns
 returns c =
     let kit = c.decimal-many.ensures in
     let digits = kit.digits ∙ fewest_digits _ _ kit.len in
-    both_put c.requires (rw digits at c.bytes.ensures) c.byte.ensures
+    let last = c.byte.ensures in
+    both_put c.requires (rw digits at c.bytes.ensures)
+    (record { same = last.same; same_length = last.same_length; put = record { behind = omega (arith, last.put.behind); put = last.put.put } })
