@@ -36,6 +36,10 @@ texts_put {old} {at} {xs} {ys} {r} {q} {out} {last} h a b = record {
 pub both_put : {p q r : Page} {xs ys : List ℕ} → Fits (xs ++ ys) p → Puts xs p q → Puts ys q r → Puts (xs ++ ys) p r
 both_put h a b = record { same = b.same ∙ a.same; same_length = b.same_length ∙ a.same_length; put = texts_put h a.put b.put }
 
+-- an equal text is put too
+pub same_text : {p q : Page} {xs ys : List ℕ} → Puts xs p q → xs ≡ ys → Puts ys p q
+same_text put e = rw e at put
+
 -- no text
 pub none_put : (p : Page) → p.at ≤ length p.out.now → Puts [] p p
 none_put p h = record { same = refl; same_length = refl; put = record { behind = omega arith; put = sym (put_none p.out.now p.at h) } }
